@@ -15,62 +15,29 @@ The checks are the rows of the tables in tools/client_checks.
 import argparse
 import os
 import sys
-import tempfile
-from collections.abc import Callable
 from concurrent.futures import ThreadPoolExecutor
-from pathlib import Path
-from typing import NamedTuple
 
 from client_checks import c, python, rust
-from client_checks.table import Check, Options, Place, Told
+from client_checks.table import Language, Options, Told
 from machine import tell_count
 
-
-class Language(NamedTuple):
-    """The checks of a language, whether they want the library, whether a run of all with --once has them, and where they run."""
-
-    checks: list[Check]
-    wants_library: bool = True
-    once: bool = True
-    place: Callable[[Path, Options], Place] = Place
-
-
 LANGUAGES = {
-    "c": Language(c.CHECKS),
-    "rust": Language(rust.CHECKS, wants_library=False, place=rust.place_of_crate),
-    "python": Language(python.CHECKS),
-    "memcheck": Language(python.MEMCHECK, once=False),
-    "cargo": Language(c.BY_CARGO, once=False, place=c.place_by_cargo),
-    "programs": Language(rust.PROGRAMS, wants_library=False, once=False),
+    "c": Language(c.CHECKS, needs=("cc",)),
+    "rust": Language(rust.CHECKS, needs=("cc", "cargo"), wants_library=False, place=rust.place_of_crate),
+    "python": Language(python.CHECKS, also=(python.HAS_MODULE,)),
+    "memcheck": Language(python.MEMCHECK, also=(python.HAS_MODULE,), once=False),
+    "cargo": Language(c.BY_CARGO, needs=("cc", "cargo"), once=False, place=c.place_by_cargo),
+    "programs": Language(rust.PROGRAMS, needs=("cc", "cargo"), wants_library=False, once=False),
 }
 
 
-def run_language(name: str, options: Options, told: Told) -> None:
-    with tempfile.TemporaryDirectory(ignore_cleanup_errors=True) as work:
-        told.try_all(LANGUAGES[name].checks, LANGUAGES[name].place(Path(work), options))
-
-
-def build_library(options: Options, told: Told) -> bool:
-    """Builds the library, and returns whether it is there."""
-    with tempfile.TemporaryDirectory() as work:
-        told.try_all([c.BUILT], Place(Path(work), options))
-    return not told.failed
-
-
-def run_all(options: Options, told: Told) -> None:
-    """Runs all languages beside each other, and tells what each says once all have ended."""
-    names = [name for name, it in LANGUAGES.items() if it.once or not options.once]
-    if not build_library(options, told):
-        told.leave_out("all that wants the library")
+def run_languages(names: list[str], options: Options, told: Told) -> None:
+    """Runs languages beside each other, once the library is built that some of them want."""
+    if any(LANGUAGES[it].wants_library for it in names) and not told.try_all(Language([c.BUILT], needs=("cc",)), options):
+        told.leave_out("all that wants the library", "left out: all that wants the library")
         names = [it for it in names if not LANGUAGES[it].wants_library]
-    said: dict[str, list[str]] = {it: [] for it in names}
-    with ThreadPoolExecutor(len(names)) as pool:
-        each = [Told(said[it].append) for it in names]
-        list(pool.map(run_language, names, [options] * len(names), each))
-    for name, it in zip(names, each):
-        print(*said[name], sep="\n")
-        told.passed, told.failed = told.passed + it.passed, told.failed + it.failed
-        told.left_out += it.left_out
+    with ThreadPoolExecutor(len(LANGUAGES)) as pool:
+        list(pool.map(lambda name: told.try_all(LANGUAGES[name], options), names))
 
 
 def full_path(path: str) -> str:
@@ -86,11 +53,8 @@ def main() -> int:
     parser.add_argument("--only", choices=LANGUAGES, metavar="LANGUAGE")
     given = parser.parse_args()
     options = Options(given.what_is_there, given.once, given.archive, given.original)
-    told = Told(lambda line: print(line, flush=True))
-    if not given.only:
-        run_all(options, told)
-    elif not LANGUAGES[given.only].wants_library or build_library(options, told):
-        run_language(given.only, options, told)
+    told = Told()
+    run_languages([given.only] if given.only else [name for name, it in LANGUAGES.items() if it.once or not options.once], options, told)
     return tell_count(told.passed, told.failed, told.left_out)
 
 

@@ -122,21 +122,21 @@ def lines(place: Place) -> str:
     return "prints what it should"
 
 
-BUILT = Check("the library", "$clients/build $archive", needs=("cc",))
+BUILT = Check("the library", "$clients/build $archive")
 CHECKS = [
-    Check("C, 20 lines against the archive", demo_of_archive, needs=("cc",)),
-    *(Check(f"C, {name}", run, needs=("cc",)) for name, run in OF_LIBRARY.items()),
-    Check("C, two threads", Program("threads", "-O1 -fsanitize=thread -pthread"), needs=("cc",)),
-    Check("C, the first program", Program("examples/first", "-fsanitize=address"), "run", ("cc",)),
-    Check("C, lines under keys", lines, needs=("cc",)),
-    Check("C, the script that compiles a program", demo_by_script, needs=("cc", "pkg-config")),
-    Check("C, installed", installed, needs=("cc", "pkg-config")),
+    Check("C, 20 lines against the archive", demo_of_archive),
+    *(Check(f"C, {name}", run) for name, run in OF_LIBRARY.items()),
+    Check("C, two threads", Program("threads", "-O1 -fsanitize=thread -pthread")),
+    Check("C, the first program", Program("examples/first", "-fsanitize=address"), "run"),
+    Check("C, lines under keys", lines),
+    Check("C, the script that compiles a program", demo_by_script, needs=("pkg-config",)),
+    Check("C, installed", installed, needs=("pkg-config",)),
     # With the warnings that C++ programmers ask for.
     Check("C++ over the header", f"""
         c++ -std=c++17 {WARNINGS} -Wold-style-cast -Wzero-as-null-pointer-constant -g -I$out -fsanitize=address,undefined \
             $clients/c/guard.cpp $out/libstring_interner.a -o $work/program
         $work/program""", needs=("c++",)),
-    Check("the header, by each standard", standards, needs=("cc", "c++")),
+    Check("the header, by each standard", standards, needs=("c++",)),
 ]
 
 
@@ -163,11 +163,11 @@ BY_CARGO = [
         mkdir -p $work/tree/clients
         cp -rL $clients/build $clients/c $clients/programs $clients/python $clients/rust $work/tree/clients
         cp -r $top/Cargo.toml $top/VERSION $top/.ci $top/bin $top/tools $work/tree
-        $work/tree/clients/build --cargo""", needs=("cc", "cargo"), also=(BY_RT,), once=False),
-    Check("by cargo, what the library shows", shown, needs=("cc",), after=MADE, once=False),
+        $work/tree/clients/build --cargo""", also=(BY_RT,), once=False),
+    Check("by cargo, what the library shows", shown, after=MADE, once=False),
     Check("by cargo, the same calls in both libraries", f"""
         cc -std=c11 {WARNINGS} -g -O1 -I$clients/c $clients/c/alike.c -ldl -o $work/program
-        $work/program {LIBRARY}.so $out/libstring_interner.so""", needs=("cc",), after=MADE, once=False),
-    *(Check(f"by cargo, {name}", run, needs=("cc",), after=MADE, once=False) for name, run in OF_LIBRARY.items()),
+        $work/program {LIBRARY}.so $out/libstring_interner.so""", after=MADE, once=False),
+    *(Check(f"by cargo, {name}", run, after=MADE, once=False) for name, run in OF_LIBRARY.items()),
     Check("by cargo, the tests for Python", TESTS, "Ran [1-9]-", (HYPOTHESIS,), (HAS_MODULE,), MADE, once=False),
 ]

@@ -143,28 +143,28 @@ CAN_CROSS_PYTHON = Need(lambda place: CAN_CROSS.is_there(place) and os.access(OF
                         "a wheel for aarch64 (cargo, and what .ci/run unpacks and installs for that processor)")
 RAN = "Ran [1-9]-"
 CHECKS = [
-    Check("Python, its tests", TESTS, RAN, (HYPOTHESIS,), (HAS_MODULE,)),
+    Check("Python, its tests", TESTS, RAN, (HYPOTHESIS,)),
     # Codes that take 8 bytes from 3 texts on, and iterators that are read 3 values at a time.
     Check("Python, columns with wide codes", module_apart("wide", "$wheel", "-DMOST_NARROW=2 -DVALUES_AT_ONCE=3") + f"""
         {IN_TESTS}$work/wide {STORED} $hypothesis -m unittest test_column test_selection test_arrow test_lines test_distinct""",
-          RAN, (HYPOTHESIS, WHEEL), (HAS_MODULE,), once=False),
+          RAN, (HYPOTHESIS, WHEEL), once=False),
     # It checks what a module in C hands it, and counts all references.
     Check("Python, a debug build", module_apart("debug", "python3d", "") + f"""
-        {IN_TESTS}$work/debug python3d -W ignore -m unittest references {OF_CALLS}""", RAN, ("python3d",), (HAS_MODULE,), once=False),
-    Check("Python, each version", versions, also=(HAS_MODULE,), once=False),
+        {IN_TESTS}$work/debug python3d -W ignore -m unittest references {OF_CALLS}""", RAN, ("python3d",), once=False),
+    Check("Python, each version", versions, once=False),
     # Against pandas, also with a worker that is killed.
-    Check("Python, columns on dask", f"{IN_TESTS}.. $dask -m unittest on_dask", RAN, (DASK,), (HAS_MODULE,)),
+    Check("Python, columns on dask", f"{IN_TESTS}.. $dask -m unittest on_dask", RAN, (DASK,)),
     Check("Python, the first programs", "\n".join(f"PYTHONPATH=$clients/python python3 {EXAMPLES}/{name}.py"
-                                                  for name in ("first", "from_a_dict", "in_parts")), "run", also=(HAS_MODULE,)),
-    Check("Python, columns", columns, "run", also=(HAS_MODULE,)),
-    Check("Python, its types", "in $clients/python mypy --cache-dir=/dev/null", "", ("mypy",), (HAS_MODULE,)),
-    Check("Python, a wheel", wheel, "", (WHEEL,), (HAS_MODULE,)),
-    Check("Python, a wheel for aarch64", on_aarch64, "", (WHEEL,), (HAS_MODULE, CAN_CROSS_PYTHON), once=False),
-    Check("Python, its sources", sources, "built with the library, and says what is missing without it", (WHEEL,), (HAS_MODULE,)),
+                                                  for name in ("first", "from_a_dict", "in_parts")), "run"),
+    Check("Python, columns", columns, "run"),
+    Check("Python, its types", "in $clients/python mypy --cache-dir=/dev/null", "", ("mypy",)),
+    Check("Python, a wheel", wheel, "", (WHEEL,)),
+    Check("Python, a wheel for aarch64", on_aarch64, "", (WHEEL,), (CAN_CROSS_PYTHON,), once=False),
+    Check("Python, its sources", sources, "built with the library, and says what is missing without it", (WHEEL,)),
     Check("Python, its sources and cargo", sources_by_cargo, "", ("cargo",), after="Python, its sources"),
 ]
 # Random calls and tests of each call: it sees each read and write of the module and the library.
 MEMCHECK = [Check("Python, under memcheck", f"""
     {UNDER_MEMCHECK} random_calls.py 3000
     {UNDER_MEMCHECK} -m unittest test_calls test_selection test_arrow test_distinct""", "memcheck reports nothing",
-                  ("valgrind", HYPOTHESIS), (HAS_MODULE,), once=False)]
+                  ("valgrind", HYPOTHESIS), once=False)]

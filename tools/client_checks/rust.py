@@ -34,6 +34,11 @@ OF_BENCH = "crates ahash dashmap hashbrown indexmap libc string_cache"
 FROM_DEBIAN = f"""--config "source.crates-io.replace-with='debian'" --config "source.debian.directory='{CRATES}'" """
 WITH_SERDE = "$work/crate/tests/with_serde"
 TEST = "cargo test --offline"
+# Calls that libFuzzer chooses, under the address sanitizer.
+FUZZ = """
+    mkdir -p $work/fuzzed/inputs
+    $clients/rust/tests/fuzz/build $work/fuzzed
+    in $work/fuzzed ASAN_OPTIONS=detect_leaks=0 ./calls -max_len=2000 -rss_limit_mb=0 -detect_leaks=0"""
 SOME_TESTS = "--lib --test interner --test misbehaving --test random_calls"
 
 
@@ -265,68 +270,64 @@ LINTERS = Need(lambda _: ask("cargo", "clippy", "--version") and ask("rustfmt", 
                "clippy and rustfmt (rustup component add clippy rustfmt, or Debian has rust-web-clippy and rustfmt-web)")
 HAS_OLDEST = Need(lambda _: oldest_compiler(), f"the oldest compiler (rustup toolchain install {OLDEST}, or .ci/run)")
 ORIGINAL = Need(lambda place: place.options.original, "the tests of the original Rust crate (./check all --original FOLDER)")
-NEEDS = ("cc", "cargo")
 TESTS, LINTED, NO_WARNING = "{} tests passed", "Rust, its form and lints", "no warning"
 SUITE, LIBRARIES = "Rust, a proved program by rustc", "Rust, libraries for wasm"
 CHECKS = [
     # The plain Rust that the crate has of the proved source is what the eraser writes today.
-    Check("Rust, the proved source", "$top/tools/erase --check", "", NEEDS),
+    Check("Rust, the proved source", "$top/tools/erase --check"),
     # RUSTC_BOOTSTRAP makes rustdoc compare the errors of programs that must not compile with those that they name.
     Check("Rust, its tests", f"""
         in $clients/rust {TEST} --release --lib --tests
-        in $clients/rust RUSTC_BOOTSTRAP=1 {TEST} --release --doc""", TESTS, NEEDS),
-    Check(LINTED, lints, NO_WARNING, (*NEEDS, "cargo-clippy", "rustfmt"), (LINTERS,)),
-    Check("Rust, lints of what measures", lints_of_bench, NO_WARNING, (*NEEDS, OF_BENCH), after=LINTED),
+        in $clients/rust RUSTC_BOOTSTRAP=1 {TEST} --release --doc""", TESTS),
+    Check(LINTED, lints, NO_WARNING, ("cargo-clippy", "rustfmt"), (LINTERS,)),
+    Check("Rust, lints of what measures", lints_of_bench, NO_WARNING, (OF_BENCH,), after=LINTED),
     Check("Rust, features of the original", features,
-          "std, inline-more and backends compile without a registry, and so does the crate without std; its parts are closed", NEEDS),
+          "std, inline-more and backends compile without a registry, and so does the crate without std; its parts are closed"),
     Check("Rust, without vectors and with every check", f"in $clients/rust {CHECKED} CARGO_TARGET_DIR=$work/checks {TEST} {SOME_TESTS}",
-          TESTS, NEEDS, once=False),
-    Check("Rust, under random layouts", layouts, "", NEEDS, once=False),
+          TESTS, once=False),
+    Check("Rust, under random layouts", layouts, once=False),
     # The program `intern` over the crate answers as the model of the proved one.
     Check("Rust, beside the model of a proved program", """
         in $clients/rust cargo build --offline --release --example intern
-        $clients/rust/beside 60 $work/target/release/examples/intern""", "", NEEDS),
+        $clients/rust/beside 60 $work/target/release/examples/intern"""),
     # The program `suite` of its erased source over the crate. It answers as the proved one must, and asks for the same memory, also
     # where each request is refused.
-    Check(SUITE, "$clients/rust/tests/erased/build $work/erased", "built", NEEDS),
-    Check("Rust, the scenarios by rustc", "$top/tools/run-scenarios $work/erased/target/release/suite", "", NEEDS, after=SUITE),
-    Check("Rust, serde", f"in {WITH_SERDE} {TEST} {FROM_DEBIAN} --lib", TESTS, (*NEEDS, SERDE)),
-    Check("Rust, its package", packed, " *Packaged-", (*NEEDS, SERDE), after="Rust, serde"),
+    Check(SUITE, "$clients/rust/tests/erased/build $work/erased", "built"),
+    Check("Rust, the scenarios by rustc", "$top/tools/run-scenarios $work/erased/target/release/suite", after=SUITE),
+    Check("Rust, serde", f"in {WITH_SERDE} {TEST} {FROM_DEBIAN} --lib", TESTS, (SERDE,)),
+    Check("Rust, its package", packed, " *Packaged-", (SERDE,), after="Rust, serde"),
     # Programs that do what no caller should, and those that intern many texts at once.
     Check("Rust, hostile programs", f"""
         in $clients/rust CARGO_TARGET_X86_64_UNKNOWN_LINUX_GNU_RUNNER='valgrind --error-exitcode=9 -q' {TEST} --release \
-            --test batches --test hostile --test misbehaving""", "memcheck reports nothing in {} tests", (*NEEDS, "valgrind"), once=False),
+            --test batches --test hostile --test misbehaving""", "memcheck reports nothing in {} tests", ("valgrind",), once=False),
     Check("Rust, under the address sanitizer", f"""
         in $clients/rust RUSTFLAGS=-Zsanitizer=address CARGO_TARGET_DIR=$work/sanitized ASAN_OPTIONS=detect_leaks=0 RUSTC_BOOTSTRAP=1 \
             {TEST} --target {HOST} --test misbehaving --test hostile --test random_calls --test sync --test sync_refusals""",
-          "the address sanitizer reports nothing in {} tests", NEEDS, (SANITIZERS,), once=False),
+          "the address sanitizer reports nothing in {} tests", also=(SANITIZERS,), once=False),
     Check("Rust, threads that share an interner", races,
           "the thread sanitizer reports nothing, threads that lock nothing, and orders that order nothing",
-          NEEDS, (SANITIZERS,), once=False),
-    # Calls that libFuzzer chooses, by 30,000 inputs, under the address sanitizer.
-    Check("Rust, by libFuzzer", f"""
-        mkdir -p $work/fuzzed/inputs
-        $clients/rust/tests/fuzz/build $work/fuzzed
-        in $work/fuzzed ASAN_OPTIONS=detect_leaks=0 ./calls -seed={random.randrange(1 << 15)} -runs=30000 -max_len=2000 -rss_limit_mb=0 \
-            -detect_leaks=0 inputs""", "", NEEDS, (SANITIZERS, FUZZER), once=False),
+          also=(SANITIZERS,), once=False),
+    # By 30,000 inputs.
+    Check("Rust, by libFuzzer", f"{FUZZ} -seed={random.randrange(1 << 15)} -runs=30000 inputs", also=(SANITIZERS, FUZZER),
+          once=False),
     Check("Rust, the oldest compiler", by_oldest(
-        f"in $clients/rust RUSTC=$rustc CARGO_TARGET_DIR=$work/oldest {TEST} --lib --tests", TESTS), "", NEEDS, (HAS_OLDEST,), once=False),
+        f"in $clients/rust RUSTC=$rustc CARGO_TARGET_DIR=$work/oldest {TEST} --lib --tests", TESTS), also=(HAS_OLDEST,), once=False),
     # Programs that start threads hang in this emulator.
     Check("Rust, on aarch64", f"""
         mkdir $work/arm
         in $work/arm {RUSTC_OF_ARM} --crate-type rlib --crate-name string_interner --cfg 'feature="std"' $clients/rust/src/lib.rs
         in $work/arm {RUSTC_OF_ARM} --extern string_interner=libstring_interner.rlib $clients/rust/examples/intern.rs
-        $clients/rust/beside 60 qemu-aarch64 -L /usr/aarch64-linux-gnu $work/arm/intern""", "", NEEDS, (CAN_CROSS,), once=False),
+        $clients/rust/beside 60 qemu-aarch64 -L /usr/aarch64-linux-gnu $work/arm/intern""", also=(CAN_CROSS,), once=False),
     Check("Rust, with 32 bits", f"""
         in $clients/rust {for_target(I686)} {TEST} --target {I686} --config profile.test.opt-level=1 --lib --tests""",
-          TESTS, NEEDS, (CAN_NARROW,), once=False),
-    Check("Rust, the scenarios with 32 bits", narrow_scenarios, "", NEEDS, (CAN_NARROW,), once=False),
+          TESTS, also=(CAN_NARROW,), once=False),
+    Check("Rust, the scenarios with 32 bits", narrow_scenarios, also=(CAN_NARROW,), once=False),
     # Without a warning, and the program `intern` beside the same model there, with every check.
     *(Check(f"Rust, on {it.partition('-')[0]}", f"""
         in $clients/rust RUSTFLAGS='-D warnings' {for_target(it)} cargo build --offline --target {it}
         in $clients/rust RUSTFLAGS='-D warnings' {for_target(it)} cargo build --offline --target {it} \
             --release --example intern {EVERY_CHECK}
-        $clients/rust/beside 20 $cache/targets/{it}/runner $work/{it}/{it}/release/examples/intern""", "", NEEDS, (
+        $clients/rust/beside 20 $cache/targets/{it}/runner $work/{it}/{it}/release/examples/intern""", also=(
         can_target(it, f"{it.partition('-')[0]} (.ci/run unpacks what builds and runs programs there)"),), once=False)
       for it in (I686, "armv7-unknown-linux-gnueabihf", "s390x-unknown-linux-gnu")),
     # `core` and `alloc`, where a compiler looks for them.
@@ -336,29 +337,28 @@ CHECKS = [
             --config "source.crates-io.replace-with='vendored'" --config "source.vendored.directory='{sources_of_rust()}/vendor'"
         mkdir -p $work/root/lib/rustlib/{WASM32}/lib
         find $work/libraries/{WASM32}/release/deps -name lib[ac]*.rlib -exec cp -t $work/root/lib/rustlib/{WASM32}/lib {{}} +""",
-          "built", NEEDS, (CAN_WASM,), once=False),
+          "built", also=(CAN_WASM,), once=False),
     # The crate without std, and the program `intern` in node beside the same model.
     Check("Rust, in wasm", f"""
         in $clients/rust {BUILD_FOR_WASM} --no-default-features
         in $work/crate/tests/wasm {BUILD_FOR_WASM}
-        $clients/rust/beside 2 node $clients/rust/tests/wasm/run.mjs $work/wasm/{WASM32}/release/module.wasm""", "", NEEDS,
+        $clients/rust/beside 2 node $clients/rust/tests/wasm/run.mjs $work/wasm/{WASM32}/release/module.wasm""",
           after=LIBRARIES, once=False),
-    Check("Rust, the example in wasm", wasm_example, "", NEEDS, after=LIBRARIES, once=False),
-    Check("Rust, the original's tests", "$clients/rust/original $original", "", NEEDS, (ORIGINAL,)),
-    Check("Rust, the first program", first, "run", NEEDS),
+    Check("Rust, the example in wasm", wasm_example, after=LIBRARIES, once=False),
+    Check("Rust, the original's tests", "$clients/rust/original $original", also=(ORIGINAL,)),
+    Check("Rust, the first program", first, "run"),
 ]
 BY_CARGO, BY_CARGO_CHECKED = "the programs by cargo", "the programs by cargo, with every check"
 RUN_PROGRAM = "$top/tools/run-program --by-cargo $work/programs"
 PROGRAMS = [
     # As a user of cargo installs them.
-    Check(BY_CARGO, "cargo install --offline --path $clients/programs --root $work/programs", "built", NEEDS),
-    Check("the programs by cargo, what stands for libraries", f"in $clients/programs {TEST} --tests", TESTS, NEEDS, after=BY_CARGO),
-    Check("intern by cargo", f"{RUN_PROGRAM}/bin/intern", "", NEEDS, after=BY_CARGO),
-    Check("dictcol by cargo", f"{RUN_PROGRAM}/bin/dictcol", "", NEEDS, after=BY_CARGO),
+    Check(BY_CARGO, "cargo install --offline --path $clients/programs --root $work/programs", "built"),
+    Check("the programs by cargo, what stands for libraries", f"in $clients/programs {TEST} --tests", TESTS, after=BY_CARGO),
+    Check("intern by cargo", f"{RUN_PROGRAM}/bin/intern", after=BY_CARGO),
+    Check("dictcol by cargo", f"{RUN_PROGRAM}/bin/dictcol", after=BY_CARGO),
     Check("the programs by cargo, the oldest compiler", by_oldest(
-        "in $clients/programs RUSTC=$rustc cargo build --offline --target-dir $work/oldest", "built"), "", NEEDS, (HAS_OLDEST,)),
-    Check(BY_CARGO_CHECKED, f"in $clients/programs {CHECKED} cargo build --offline --target-dir $work/programs/target", "built", NEEDS),
-    Check("intern by cargo, with every check", f"{RUN_PROGRAM}/target/debug/intern cases tables random", "", NEEDS, after=BY_CARGO_CHECKED),
-    Check("dictcol by cargo, with every check", f"{RUN_PROGRAM}/target/debug/dictcol cases tables columns random", "", NEEDS,
-          after=BY_CARGO_CHECKED),
+        "in $clients/programs RUSTC=$rustc cargo build --offline --target-dir $work/oldest", "built"), also=(HAS_OLDEST,)),
+    Check(BY_CARGO_CHECKED, f"in $clients/programs {CHECKED} cargo build --offline --target-dir $work/programs/target", "built"),
+    Check("intern by cargo, with every check", f"{RUN_PROGRAM}/target/debug/intern cases tables random", after=BY_CARGO_CHECKED),
+    Check("dictcol by cargo, with every check", f"{RUN_PROGRAM}/target/debug/dictcol cases tables columns random", after=BY_CARGO_CHECKED),
 ]

@@ -5,8 +5,10 @@ import re
 import shlex
 import shutil
 import subprocess
-from collections.abc import Callable, Iterable
-from dataclasses import dataclass, field
+import tempfile
+import threading
+from collections.abc import Callable
+from dataclasses import dataclass
 from pathlib import Path
 from string import Template
 from typing import NamedTuple
@@ -47,6 +49,7 @@ class Place:
         self.environment = os.environ | {
             "STRING_INTERNER_LIB": str(out), "CARGO_TARGET_DIR": f"{work}/target", "PYTHONDONTWRITEBYTECODE": "1"}
         self.log = ""
+        self.hangs: float | None = HANGS
 
     def can_repeat(self, command: str) -> bool:
         """Whether a command is there that repeats what runs without it, and repeating is wanted."""
@@ -66,7 +69,7 @@ class Place:
         environment = {name: it for name, it in (self.environment | settings).items() if it}
         try:
             ran = subprocess.run(words, cwd=folder, env=environment, input=given, stdout=subprocess.PIPE, stderr=subprocess.STDOUT,
-                                 encoding="utf-8", errors="replace", timeout=HANGS, check=False)
+                                 encoding="utf-8", errors="replace", timeout=self.hangs, check=False)
         except subprocess.TimeoutExpired as why:
             raise Failed(str(why)) from None
         self.log += ran.stdout
@@ -150,43 +153,59 @@ class Check:
         return place.tell(self.tells)
 
 
-@dataclass
+class Language(NamedTuple):
+    """The checks of a language; what all of them need, as one does; whether they want the library, whether a run of all with --once has
+    them, and where they run."""
+
+    checks: list[Check]
+    needs: tuple[str, ...] = ()
+    also: tuple[Need, ...] = ()
+    wants_library: bool = True
+    once: bool = True
+    place: Callable[[Path, Options], Place] = Place
+
+
 class Told:
-    """What checks told by a function that prints, or keeps it; how they ended; and what was left out."""
+    """How checks ended that run beside each other, and what was left out. Each is told at once, under its name."""
 
-    say: Callable[[str], object]
-    passed: int = 0
-    failed: int = 0
-    left_out: list[str] = field(default_factory=list)
+    def __init__(self) -> None:
+        self.passed = self.failed = 0
+        self.left_out: list[str] = []
+        self.lock = threading.Lock()
 
-    def leave_out(self, what: str) -> None:
+    def tell(self, line: str, passed: int = 0, failed: int = 0) -> None:
+        with self.lock:
+            print(line, flush=True)
+            self.passed, self.failed = self.passed + passed, self.failed + failed
+
+    def leave_out(self, what: str, line: str, failed: int = 0) -> None:
         if what not in self.left_out:
             self.left_out.append(what)
-            self.say(f"left out: {what}")
+            self.tell(line, failed=failed)
 
     def try_one(self, check: Check, place: Place) -> bool:
         """Runs a check, tells its line, and counts how it ended. All that it printed is told if it failed."""
         try:
-            self.say(f"{check.name}: {check.run(place)}")
+            self.tell(f"{check.name}: {check.run(place)}", passed=1)
         except (Failed, OSError) as why:
-            self.failed += 1
-            self.say("\n    ".join([f"{check.name}: failed", *place.log.splitlines(), str(why)]))
+            self.tell("\n    ".join([f"{check.name}: failed", *place.log.splitlines(), str(why)]), failed=1)
             return False
-        self.passed += 1
         return True
 
-    def try_all(self, checks: Iterable[Check], place: Place) -> None:
+    def try_all(self, language: Language, options: Options) -> bool:
         """Runs the checks that the options have, and of which all is there. What .ci/packages names and is missing counts as failed,
-        unless that does not count."""
-        wanted = [it for it in checks if it.once or not place.options.once]
-        for lacking in missing(dict.fromkeys(need for it in wanted for need in it.needs)):
-            self.say(lacking)
-            self.left_out.append(lacking)
-            self.failed += not place.options.what_is_there
+        unless that does not count. Returns whether all passed."""
+        wanted = [it for it in language.checks if it.once or not options.once]
+        for need in dict.fromkeys(need for it in wanted for need in (*language.needs, *it.needs)):
+            for lacking in missing([need]):
+                self.leave_out(lacking, lacking, failed=not options.what_is_there)
         passed = {""}
-        for check in wanted:
-            if check.after in passed and not missing(check.needs):
-                if lacks := next((it.left_out for it in check.also if not it.is_there(place)), ""):
-                    self.leave_out(lacks)
-                elif self.try_one(check, place):
-                    passed.add(check.name)
+        with tempfile.TemporaryDirectory(ignore_cleanup_errors=True) as work:
+            place = language.place(Path(work), options)
+            for check in wanted:
+                if check.after in passed and not missing((*language.needs, *check.needs)):
+                    if lacks := next((it.left_out for it in (*language.also, *check.also) if not it.is_there(place)), ""):
+                        self.leave_out(lacks, f"left out: {lacks}")
+                    elif self.try_one(check, place):
+                        passed.add(check.name)
+        return passed == {"", *(it.name for it in wanted)}

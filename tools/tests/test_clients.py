@@ -1,5 +1,7 @@
 """How clients/build makes the library and the module for Python, how clients/check runs its checks, and that exports which lend change nothing."""
 
+import contextlib
+import io
 import os
 import re
 import shutil
@@ -11,7 +13,7 @@ from unittest import mock
 
 from small import link_commands
 from check_clients import LANGUAGES
-from client_checks.table import Check, Need, Options, Place, Told
+from client_checks.table import Check, Language, Need, Options, Told
 from source import functions
 from tree import TOP, read
 
@@ -236,11 +238,11 @@ class ChecksTest(unittest.TestCase):
 
     def tell(self, *checks, **options):
         """What is told, in order, and what passed and failed."""
-        lines: list[str] = []
-        told = Told(lines.append)
-        with tempfile.TemporaryDirectory() as work, mock.patch("client_checks.table.missing", lambda needs: [f"no {it}" for it in needs]):
-            told.try_all(checks, Place(Path(work), Options(**options)))
-        return lines, told.passed, told.failed
+        told = Told()
+        missing = mock.patch("client_checks.table.missing", lambda needs: [f"no {it}" for it in needs])
+        with missing, contextlib.redirect_stdout(io.StringIO()) as printed:
+            told.try_all(Language(checks), Options(**options))
+        return printed.getvalue().splitlines(), told.passed, told.failed
 
     def test_steps(self):
         for steps, line in (
@@ -257,7 +259,7 @@ class ChecksTest(unittest.TestCase):
         for steps in ("true\nfalse\ntrue", "no-such-command", lambda place: place.refused("yes", "false"), lambda place: place.only("*"),
                       lambda place: place.refused("", "true"), lambda place: place.printed("echo a", "b")):
             lines, passed, failed = self.tell(Check("it", steps))
-            self.assertEqual((lines[0].partition("\n")[0], passed, failed), ("it: failed", 0, 1))
+            self.assertEqual((lines[0], passed, failed), ("it: failed", 0, 1))
 
     def test_what_is_told(self):
         step = "printf 'test a ... ok\\ntest b ... FAILED\\ntest c ... ok\\nRan 7\\nlast\\n'"
