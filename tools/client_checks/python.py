@@ -35,7 +35,7 @@ def versions(place: Place) -> str:
         return place.run(f"$python -c 'import platform; print({what})'", python=python).strip()
 
     minor, passed = '".".join(platform.python_version_tuple()[:2])', []
-    tried = {tell("$hypothesis", minor)} if is_there(HYPOTHESIS) else set()
+    tried = {tell(str(place.names["hypothesis"]), minor)} if is_there(HYPOTHESIS) else set()
     pyenv = Path(os.environ.get("PYENV_ROOT") or Path.home() / ".pyenv", "versions")
     for python in [*sorted(pyenv.glob("3.1[1-9]*/bin/python3")), *sorted(Path("/usr/bin").glob("python3.1[1-9]"))]:
         if os.access(python, os.X_OK) and (version := tell(python, minor)) not in tried:
