@@ -12,6 +12,7 @@ from collections.abc import Callable, Collection, Iterable, Iterator, Mapping, S
 
 from results import BACKENDS, DEFAULT, DOCS, FAST, FNV, HERE, INPUTS, LINES, MAP, MEASURED, NOUNS, ORIGINAL, PARTS, PHASES, SET
 from results import Results, Row, sum_of
+from machine import tell_count
 from rust_crate import PHASES as RUST_PHASES, table_rows, truncate_rows
 import threads
 
@@ -281,8 +282,8 @@ def faults(results: Results) -> Iterator[str]:
 
 def check() -> int:
     found = list(faults(Results(MEASURED)))
-    print(*found, f"{len(PARTS) + len(DOCUMENTS) - len(found)} passed, {len(found)} failed", sep="\n")
-    return 1 if found else 0
+    print(*(f"{it}\n" for it in found), sep="", end="")
+    return tell_count(len(PARTS) + len(DOCUMENTS) - len(found), len(found))
 
 
 def main() -> int:

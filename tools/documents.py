@@ -14,7 +14,7 @@ from functools import cached_property
 from pathlib import PurePosixPath
 from textwrap import indent
 
-from needs import TAKES
+from gate_log import TAKES
 from tree import TOP, listed, read
 
 # Where the blocks of each language stand as files that the gate proves or runs.
@@ -207,9 +207,10 @@ def other_lines(text: str) -> Iterator[str]:
 
 def other_times(text: str) -> Iterator[str]:
     """The commands of the gate of which the front page has another time or memory than they print."""
-    for command, (time, memory) in TAKES.items():
-        if not re.search(rf"^\| `{re.escape(command)}`[^|]*\| {re.escape(time)} \| {re.escape(memory)} \|", text, re.M):
-            yield f"has no row of {command} with {time} and {memory}"
+    rows = [line.partition(":")[::2] for line in text.splitlines()]
+    for command, takes in TAKES.items():
+        if not any(head == f"| `{command}`" and cells.endswith(" | {} | {} |".format(*takes)) for head, cells in rows):
+            yield f"has no row of {command} with {' and '.join(takes)}"
 
 
 def faults() -> Iterator[str]:

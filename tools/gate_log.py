@@ -13,10 +13,17 @@ from typing import NamedTuple
 
 # Compiles in the folder that comes behind, and tries so many texts as do.
 ATTACK = 'rustc --edition 2021 -O -o "$0/attacks" tools/tests/attacks.rs && "$0/attacks" "$@"'
-UNITTEST = ("python3", "-m", "unittest", "discover", "-q", "-s")
 CLIENTS = ("clients/check", "--what-is-there", "--once")
-# How a part tells what it counted; unittest tells it so, too.
-COUNT = re.compile(r"^(?:Ran )?(\d+) (?:passed, (\d+) failed|tests? in \S+)$", re.M)
+# What a part counted, as it prints it.
+COUNT = re.compile(r"^(\d+) passed, (\d+) failed$", re.M)
+# What the commands of the gate take on 4 processors: time, and memory.
+TAKES = {
+    "./check tests": ("5 to 10 minutes", "5 GiB"),
+    "./check": ("20 to 40 minutes", "9 GiB"),
+    "./check quick": ("1 to 30 minutes", "6 GiB"),
+    "./check edits": ("1 to 60 minutes", "6 GiB"),
+    "./check all": ("1.5 to 2.5 hours", "9 GiB"),
+}
 END = "== what it took"
 COMMAND = "./check all"
 # What the gate says of a part at the end.
@@ -26,19 +33,21 @@ TAKEN = re.compile(r"^(.+): (\d+) passed, \d+ seconds, \d+ processor seconds$", 
 class Row(NamedTuple):
     """A part: the commands of the gate that have it, as `check` for ./check, and `cargo` for ./check tests without the toolchain; what
     it runs, behind which come words that the command knows; what it needs of the machine, or is left out; for who waits, about how
-    many minutes it takes on 4 processors, if more than two; and whether it fails if nothing passed."""
+    many minutes it takes on 4 processors, if more than two; whether it fails if nothing passed; and whether it is `rt`, which counts in
+    its last line alone. What else counts hands its numbers over (`tell_count` in machine.py)."""
 
     forms: str = ""
     words: tuple[str, ...] = ()
     needs: tuple[str, ...] = ()
     minutes: str = ""
     is_counted: bool = True
+    is_of_rt: bool = False
 
 
 PARTS = {
     "texts chosen without keys": Row("check all", ("sh", "-c", ATTACK), ("cargo",)),
     "linters": Row("check tests cargo all", ("tools/lint.py",), is_counted=False),
-    "proofs": Row("check all", ("bash", "-c"), minutes="15 to 30"),
+    "proofs": Row("check all", ("bash", "-c"), minutes="15 to 30", is_of_rt=True),
     "the library for C and its clients": Row("check all", (".ci/run-clients",), ("cc",), "5 to 10"),
     "scenarios": Row("check quick all", ("tools/run-scenarios",)),
     "the program": Row("check tests quick all", ("tools/run-program",)),
@@ -48,8 +57,8 @@ PARTS = {
     "the steps of the pages by cargo": Row("check cargo all", ("tools/try_guide.py", "--by-cargo"), ("cc", "cargo")),
     "records of proofs": Row("check all", ("tools/records.py", "compare"), is_counted=False),
     "what was measured": Row("check all", ("python3", "bench/tables.py", "--check")),
-    "tests of the gate's tools": Row("edits all", (*UNITTEST, "tools/tests")),
-    "tests of the benchmark's tools": Row("edits all", (*UNITTEST, "bench/tests")),
+    "tests of the gate's tools": Row("edits all", ("tools/run-tests", "tools/tests")),
+    "tests of the benchmark's tools": Row("edits all", ("tools/run-tests", "bench/tests")),
     "planted bugs that the prover refuses": Row("edits all", ("tools/refuse-edits", "--kept")),
     "planted bugs that a run catches": Row("all", ("tools/catch-edits", "--kept")),
     "the Rust crate": Row("tests", (*CLIENTS, "--only", "rust"), ("cc",), "5 to 10"),

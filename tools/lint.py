@@ -24,7 +24,7 @@ from needs import missing
 from tree import TOP
 
 # What shell scripts read, and have no first line that says so.
-READ_BY_SHELL = ("bin/current", "bin/program", "bin/proving", "clients/tally")
+READ_BY_SHELL = ("bin/current", "bin/program", "bin/proving")
 # The tests of the Python package pass what they must not, and clients/check has mypy look at the package and its examples.
 OF_PACKAGE = ("clients/python/examples/", "clients/python/string_interner/", "clients/python/tests/")
 UNTYPED = ("--follow-imports=silent", "--allow-untyped-defs", "--allow-untyped-calls", "--allow-incomplete-defs")
@@ -85,7 +85,7 @@ def main(*wanted: str) -> int:
         said = list(pool.map(Lint.run, [it for it in chosen if not missing([it.need])]))
     print(*filter(None, said), sep="\n", end="")
     failed = sum(map(bool, said))
-    tell_count(len(said) - failed, failed)
+    tell_count(len(said) - failed, failed, lacking)
     return int(failed > 0)
 
 

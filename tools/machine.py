@@ -1,14 +1,18 @@
 """What the machine has, and commands that run on it."""
 
+import json
 import os
 import re
 import subprocess
 import sys
+from collections.abc import Iterable
 from functools import cache
 from pathlib import Path
 from typing import Any
 
 PROCESSORS = len(os.sched_getaffinity(0))
+# The file by which the gate learns what a part of it counted. What the part starts has its own counts.
+COUNTS = os.environ.pop("GATE_COUNTS", os.devnull)
 
 
 def available_bytes() -> int:
@@ -23,9 +27,11 @@ def run_in(folder: str | Path, *words: object) -> tuple[int, str]:
     return ran.returncode, ran.stdout
 
 
-def tell_count(passed: int, failed: int) -> int:
-    """Prints what passed and what failed, as the gate reads it. Returns the status: 1 if anything failed, or nothing was tried."""
+def tell_count(passed: int, failed: int, left_out: Iterable[str] = ()) -> int:
+    """Prints what passed and what failed, and hands both to the gate, with what was left out. Returns the status: 1 if anything failed, or
+    nothing was tried."""
     print(f"{passed} passed, {failed} failed", flush=True)
+    Path(COUNTS).write_text(json.dumps([passed, failed, [*left_out]]), encoding="utf-8")
     return 1 if failed or not passed else 0
 
 

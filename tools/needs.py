@@ -7,7 +7,6 @@
     tools/needs.py --python MODULE..   prints the first Python that has these modules, this shell's or Debian's, or fails
 """
 
-import re
 import shutil
 import subprocess
 import sys
@@ -21,17 +20,7 @@ CRATES = Path("/usr/share/cargo/registry")
 PACKAGES = Path(__file__).resolve().parent.parent / ".ci/packages"
 # What bench/run uses besides.
 ONLY_TO_MEASURE = {"hyperfine": ["hyperfine"], "python matplotlib": ["python3-matplotlib"]}
-# What the commands of the gate take on 4 processors: time, and memory.
-TAKES = {
-    "./check tests": ("5 to 10 minutes", "5 GiB"),
-    "./check": ("20 to 40 minutes", "9 GiB"),
-    "./check quick": ("1 to 30 minutes", "6 GiB"),
-    "./check edits": ("1 to 60 minutes", "6 GiB"),
-    "./check all": ("1.5 to 2.5 hours", "9 GiB"),
-}
 HAS = "import importlib.util, sys; sys.exit(not all(map(importlib.util.find_spec, sys.argv[1:])))"
-# What is said of something that is missing.
-MISSING = re.compile(r"^no .* on this machine: .*$", re.M)
 
 
 def packages() -> dict[str, list[str]]:

@@ -207,8 +207,6 @@ def compare_crates(crates: list[Any], verdicts: Mapping[str, str | None]) -> Ite
         below = [it.name for it in crate.below() if it.name in left_out]
         why = stale(crate, record) or below and f"{crate.name} stands on {below[0]}"
         verdict = verdicts.get(crate.name, "")
-        if verdict is None and not why:
-            print(f"no verdict made anew: {crate.name} was proved by an earlier run on this machine")
         fault = why or compare_crate(crate, record, verdict)
         if fault and crate.makes_rlib():
             left_out.add(crate.name)
@@ -219,22 +217,26 @@ def compare(tree: str, log: str, *words: str) -> int:
     """Compares each record that fits a copy of the sources with what `rt ci` proved and built there. Returns the status."""
     if not folder_of_records().is_dir():
         others = " and ".join(others_of_records()) or "none"
-        print(f"no record of these sources: none is by this build of the toolchain, but by {others}")
+        left_out = [f"no record of these sources: none is by this build of the toolchain, but by {others}"]
+        print(*left_out)
+        tell_count(0, 0, left_out)
         return 0
     said = Path(log).read_text(encoding="utf-8", errors="replace")
     verdicts = dict.fromkeys(re.findall(r"^rt: (\w+) is kept: ", said, re.M)) | verdicts_in(said)
     crates, passed = crates_for(BUILT, Path(tree)), 0
-    faults = [f"records/{it}: nothing compares this: remove it" for it in others_of_records()]
+    faults, left_out = [f"records/{it}: nothing compares this: remove it" for it in others_of_records()], []
     with no_other_run_in(crates):
         for record, fault, is_stale in compare_crates(crates, verdicts):
+            if not is_stale and verdicts.get(record.name, "") is None:
+                left_out.append(f"no verdict made anew: {record.name} was proved by an earlier run on this machine")
             if is_stale and "--committed" not in words:
-                print(f"no record of these sources: {fault}")
+                left_out.append(f"no record of these sources: {fault}")
             elif fault:
                 faults.append(f"{record}: {fault}")
             else:
                 passed += 1
-    print(*faults, sep="\n", end="\n" if faults else "")
-    tell_count(passed, len(faults))
+    print(*(f"{it}\n" for it in [*left_out, *faults]), sep="", end="")
+    tell_count(passed, len(faults), left_out)
     return 1 if faults else 0
 
 

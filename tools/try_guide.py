@@ -132,7 +132,7 @@ def pages() -> list[str]:
 
 def main(clone: str = "", *names: str) -> int:
     is_by_cargo = clone == BY_CARGO
-    passed = failed = 0
+    passed, failed, left_out = 0, 0, []
     with tempfile.TemporaryDirectory() as folder:
         clean, first = Path(folder, "clean"), []
         copy_sources(clean)
@@ -145,6 +145,7 @@ def main(clone: str = "", *names: str) -> int:
             text = read(TOP / page)
             if lacking := missing(NEEDS.get(page, ())):
                 print(*lacking, sep="\n")
+                left_out += lacking
                 continue
             # No step writes into a file of the repository, so links serve as copies.
             own = Path(folder, page.replace("/", "."), "clone")
@@ -152,7 +153,7 @@ def main(clone: str = "", *names: str) -> int:
             found = list(take_steps(page, text, own, first))
             print(*found, sep="\n", end="\n" if found else "")
             passed, failed = passed + (not found), failed + bool(found)
-    return tell_count(passed, failed)
+    return tell_count(passed, failed, left_out)
 
 
 if __name__ == "__main__":

@@ -14,7 +14,7 @@ from typing import NamedTuple
 from tree import TOP
 
 # What builds, tries and measures: without tests of these, pages and what is measured.
-HARNESS = ("check", "tools/", "bench/", ".ci/", "clients/check", "clients/fuzz", "clients/tally")
+HARNESS = ("check", "tools/", "bench/", ".ci/", "clients/check", "clients/fuzz")
 
 
 class Weight(NamedTuple):

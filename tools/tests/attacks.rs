@@ -288,10 +288,10 @@ fn main() {
         wrong.push("a weaker function is not told apart".to_owned());
     }
     wrong.iter().for_each(|it| println!("{it}"));
-    println!(
-        "{} passed, {} failed",
-        families.len() + 2 - wrong.len(),
-        wrong.len()
-    );
+    let (passed, failed) = (families.len() + 2 - wrong.len(), wrong.len());
+    println!("{passed} passed, {failed} failed");
+    if let Ok(counts) = std::env::var("GATE_COUNTS") {
+        std::fs::write(counts, format!("[{passed}, {failed}, []]")).expect("a file for the counts");
+    }
     std::process::exit(i32::from(!wrong.is_empty()));
 }

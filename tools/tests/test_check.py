@@ -2,6 +2,7 @@
 
 import contextlib
 import io
+import json
 import os
 import runpy
 import subprocess
@@ -19,6 +20,11 @@ from tree import TOP
 CHECK = runpy.run_path(str(TOP / "check"))
 
 
+def tells(passed, failed=0, *left_out):
+    """A command of a shell that hands over what it counted, as a part does."""
+    return f"echo '{json.dumps([passed, failed, left_out])}' > $GATE_COUNTS"
+
+
 def of_table(form):
     """The parts that a command of the gate has by the table."""
     return {name for name, row in PARTS.items() if form in row.forms.split()}
@@ -33,9 +39,21 @@ class PartTest(unittest.TestCase):
         return is_well, self.gate.parts[0], printed.getvalue()
 
     def test_a_count(self):
-        is_well, part, printed = self.run_part("echo '9 passed, 9 failed'; echo '3 passed, 0 failed'")
-        self.assertEqual((is_well, part.passed, part.failed), (True, 3, 0))
-        self.assertEqual(printed, "== it: begins\n== it\n9 passed, 9 failed\n3 passed, 0 failed\n")
+        is_well, part, printed = self.run_part(f"echo '9 passed, 9 failed'; {tells(3, 0, 'a thing')}")
+        self.assertEqual((is_well, part.passed, part.failed, part.left_out), (True, 3, 0, ["a thing"]))
+        self.assertEqual(printed, "== it: begins\n== it\n9 passed, 9 failed\n")
+
+    def test_a_count_by_a_tool(self):
+        """It does not hand its file on to what it starts."""
+        script = f"cd '{TOP}/tools' && python3 -c 'import machine, os; machine.tell_count(2, 1, [\"it\"]); print(os.environ.get(\"GATE_COUNTS\"))'"
+        _, part, printed = self.run_part(script)
+        self.assertEqual((part.passed, part.failed, part.left_out), (2, 1, ["it"]))
+        self.assertTrue(printed.endswith("2 passed, 1 failed\nNone\n"))
+
+    def test_the_count_of_the_toolchain(self):
+        with contextlib.redirect_stdout(io.StringIO()):
+            part = CHECK["Part"]("proofs", ["printf", "1 passed, 1 failed\n9 passed, 0 failed\n"])
+            self.assertEqual((part.wait(), part.passed), (True, 9))
 
     def test_it_is_told_that_a_part_begins(self):
         with contextlib.redirect_stdout(io.StringIO()) as printed:
@@ -45,8 +63,8 @@ class PartTest(unittest.TestCase):
         part.log.close()
 
     def test_what_failed(self):
-        self.assertEqual(self.run_part("echo '3 passed, 2 failed'; exit 1")[0], False)
-        for script in "echo '3 passed, 0 failed'; exit 1", "true", "echo '0 passed, 0 failed'":
+        self.assertEqual(self.run_part(f"{tells(3, 2)}; exit 1")[0], False)
+        for script in f"{tells(3)}; exit 1", "true", "echo '3 passed, 0 failed'", tells(0):
             is_well, part, printed = self.run_part(script)
             self.assertEqual((is_well, part.failed), (False, 1), script)
             self.assertIn("and no count of what passed", printed)
@@ -55,15 +73,19 @@ class PartTest(unittest.TestCase):
         self.assertIn("it: ended by SIGKILL, and no count", self.run_part("kill -9 $$")[2])
 
     def test_tests_of_python(self):
-        self.assertEqual(self.run_part("echo 'Ran 157 tests in 0.5s'")[1].passed, 157)
-        self.assertEqual(self.run_part("echo 'Ran 157 tests in 0.5s'; exit 1")[1].failed, 1)
+        case = "import unittest\nclass Case(unittest.TestCase):\n    def test_it(self): self.assertTrue({})\n    def test_that(self): self.skipTest('why')\n"
+        for passes, counts in (1, (1, 0, ["test_one.Case.test_that: why"])), (0, (0, 1, ["test_one.Case.test_that: why"])):
+            with tempfile.TemporaryDirectory() as folder:
+                Path(folder, "test_one.py").write_text(case.format(passes))
+                _, part, _ = self.run_part(f"{TOP}/tools/run-tests '{folder}'")
+                self.assertEqual((part.passed, part.failed, part.left_out), counts)
 
     def test_a_part_that_counts_nothing(self):
         self.assertTrue(self.run_part("true", is_counted=False)[0])
         self.assertFalse(self.run_part("exit 1", is_counted=False)[0])
 
     def test_the_count_of_all(self):
-        self.run_part("echo '3 passed, 2 failed'")
+        self.run_part(tells(3, 2))
         self.gate.left_out.append("a thing")
         with contextlib.redirect_stdout(io.StringIO()) as printed:
             self.assertEqual(self.gate.tell(), 1)
@@ -146,7 +168,7 @@ class BeforehandTest(unittest.TestCase):
     def run_without_the_toolchain(self, mode):
         """The status, and what was printed."""
         found = mock.patch.dict(CHECK["run_mode"].__globals__, {
-            "is_there": lambda need: need != "rt", "tests_by_cargo": lambda gate: gate.run("it", "echo", "1 passed, 0 failed")})
+            "is_there": lambda need: need != "rt", "tests_by_cargo": lambda gate: gate.run("it", "sh", "-c", tells(1))})
         with found, mock.patch("signal.signal"), contextlib.redirect_stdout(io.StringIO()) as printed:
             return CHECK["run_mode"](CHECK["Gate"](None), mode), printed.getvalue().splitlines()
 
@@ -168,7 +190,7 @@ class BeforehandTest(unittest.TestCase):
     def test_it_comes_before_the_first_part(self):
         """And the command is printed at the end, for tools/release."""
         gate = CHECK["Gate"](None)
-        modes = mock.patch.dict(CHECK["MODES"], {"all": lambda gate: gate.run("it", "echo", "1 passed, 0 failed")})
+        modes = mock.patch.dict(CHECK["MODES"], {"all": lambda gate: gate.run("it", "sh", "-c", tells(1))})
         signals = mock.patch("signal.signal")
         with modes, signals, contextlib.redirect_stdout(io.StringIO()) as printed:
             self.assertEqual(CHECK["run_mode"](gate, "all"), 0)
@@ -186,7 +208,7 @@ class EndedTest(unittest.TestCase):
         script = "until [ -e begun ]; do sleep 0.1; done; sleep 0.5; kill -TERM $PPID; sleep 60"
         with tempfile.TemporaryDirectory() as folder:
             words = ["import runpy, sys", f"CHECK = runpy.run_path({str(TOP / 'check')!r})", "gate = CHECK['Gate'](None)",
-                     "gate.run('one', 'sh', '-c', 'echo 3 passed, 0 failed')",
+                     f"gate.run('one', 'sh', '-c', {tells(3)!r})",
                      "def quick(gate):",
                      f"    part = gate.begin('two', 'sh', '-c', {script!r}, folder={folder!r})",
                      f"    open({folder + '/begun'!r}, 'w').close()",
@@ -208,7 +230,7 @@ class CheckTest(unittest.TestCase):
 
         def part(name, words, **_):
             begun.append((name, words[:2]))
-            return mock.Mock(said="no pip on this machine: it\nleft out: wasm (its packages)\n", failed=not is_proved, **{"wait.return_value": is_proved})
+            return mock.Mock(said="", left_out=["wasm (its packages)"], failed=not is_proved, **{"wait.return_value": is_proved})
 
         changed = {"missing": lambda needs: [], "stamp_libraries": kept.append, "take_libraries": lambda tree, top: kept.append(tree)}
         changed |= {"copy_crates": lambda source, into: (into / "crates.txt").touch(), "Part": part, "commit_as_it_stands": lambda: None,
@@ -225,7 +247,7 @@ class CheckTest(unittest.TestCase):
                                  "records of proofs", "what was measured"])
         self.assertEqual({*names}, of_table("check"))
         self.assertEqual((words, kept), (["bash", "-c"], 2))
-        self.assertLessEqual({"no pip on this machine: it", "wasm (its packages)"}, {*left_out})
+        self.assertIn("wasm (its packages)", left_out)
 
     def test_other_commands_have_the_parts_of_the_table(self):
         for form, command in ("quick", "quick"), ("edits", "edits"), ("all", "everything"):
@@ -252,7 +274,7 @@ class TestsTest(unittest.TestCase):
         def part(name, words):
             begun.append((name, [Path(it).name for it in words]))
             status = 3 if words[0] == "tools/records.py" and words[-1] in unrecorded else 0
-            return mock.Mock(said="", **{"wait.return_value": True, "process.returncode": status})
+            return mock.Mock(said="", left_out=[], **{"wait.return_value": True, "process.returncode": status})
 
         named = mock.patch.dict(CHECK["tests"].__globals__, {"missing": lambda needs: [], "Part": part})
         with named, mock.patch("try_guide.pages", lambda: ["README.md", "docs/use/rattle.md"]):

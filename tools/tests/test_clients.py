@@ -1,5 +1,7 @@
-"""How clients/build makes the library and the module for Python, what clients/check wants, and that exports which lend change nothing."""
+"""How clients/build makes the library and the module for Python, how clients/check runs its checks, and that exports which lend change nothing."""
 
+import contextlib
+import io
 import os
 import re
 import shutil
@@ -7,8 +9,11 @@ import subprocess
 import tempfile
 import unittest
 from pathlib import Path
+from unittest import mock
 
 from small import link_commands
+from check_clients import LANGUAGES
+from client_checks.table import Check, Language, Need, Options, Told
 from source import functions
 from tree import TOP, read
 
@@ -228,48 +233,58 @@ class ClientsBuild(unittest.TestCase):
             self.assertIn("usage", ran.stderr)
 
 
-# Stands for what names a missing package: all is missing but a shell's own commands.
-NEEDS = """#!/bin/sh
-echo "wants $1"
-exit 1
-"""
+class ChecksTest(unittest.TestCase):
+    """How checks of a table run, and what is told of them."""
 
-CRATES = "crates serde serde_derive serde_json bincode"
-CRATES_OF_BENCH = "crates ahash dashmap hashbrown indexmap libc string_cache"
+    def tell(self, *checks, **options):
+        """What is told, in order, and what passed and failed."""
+        told = Told()
+        missing = mock.patch("client_checks.table.missing", lambda needs: [f"no {it}" for it in needs])
+        with missing, contextlib.redirect_stdout(io.StringIO()) as printed:
+            told.try_all(Language(checks), Options(**options))
+        return printed.getvalue().splitlines(), told.passed, told.failed
 
+    def test_steps(self):
+        for steps, line in (
+            ("printf 'one\\ntwo\\n'", "it: two"),
+            ("in $work NAME='a b' sh -c 'echo \"$$NAME $$0\" > file' $out\nin $work cat file", f"it: a b {TOP}/clients/out"),
+            ("HOME= sh -c 'echo \"none:$$HOME\"'", "it: none:"),
+            (lambda place: place.refused("^no", "sh -c 'echo no; exit 3'"), "it: no"),
+            (lambda place: place.printed("cat", "a", given="a\n"), "it: a"),
+            (lambda place: "said", "it: said"),
+        ):
+            self.assertEqual(self.tell(Check("it", steps)), ([line], 1, 0))
 
-class ClientsCheckTest(unittest.TestCase):
-    """In a folder where no command is there that a test needs, so that each language says no more than what it wants."""
+    def test_what_fails(self):
+        for steps in ("true\nfalse\ntrue", "no-such-command", lambda place: place.refused("yes", "false"), lambda place: place.only("*"),
+                      lambda place: place.refused("", "true"), lambda place: place.printed("echo a", "b")):
+            lines, passed, failed = self.tell(Check("it", steps))
+            self.assertEqual((lines[0], passed, failed), ("it: failed", 0, 1))
 
-    def setUp(self):
-        folder = tempfile.TemporaryDirectory()
-        self.addCleanup(folder.cleanup)
-        self.top = Path(folder.name)
-        for name in ("clients/check", "clients/tally", "clients/rust/Cargo.toml"):
-            (self.top / name).parent.mkdir(parents=True, exist_ok=True)
-            shutil.copy(TOP / name, self.top / name)
-        for name, text in (("clients/build", "#!/bin/sh\necho 'not made'\nexit 1\n"), ("tools/needs.py", NEEDS)):
-            (self.top / name).parent.mkdir(exist_ok=True)
-            (self.top / name).write_text(text)
-            (self.top / name).chmod(0o755)
-        (self.top / "commands").mkdir()
-        for command in ("bash", "sh", "dirname", "mktemp", "rm", "tail", "sed", "cat"):
-            (self.top / "commands" / command).symlink_to(str(shutil.which(command)))
+    def test_what_is_told(self):
+        step = "printf 'test a ... ok\\ntest b ... FAILED\\ntest c ... ok\\nRan 7\\nlast\\n'"
+        for tells, told in (("{} tests", "2 tests"), ("Ran [1-9]-", "Ran 7"), ("words", "words"), ("", "last")):
+            self.assertEqual(self.tell(Check("it", step, tells))[0], [f"it: {told}"])
+        for tells in "{} tests", "Ran [1-9]-":
+            self.assertEqual(self.tell(Check("it", "echo Ran 0", tells))[1:], (0, 1))
 
-    def wanted(self, *words):
-        """What it says that it wants, in order, once it has said that the library is not made."""
-        ran = subprocess.run([self.top / "clients/check", *words], env={"PATH": f"{self.top}/commands"}, capture_output=True,
-                             encoding="utf-8", check=False)
-        lines = ran.stdout.splitlines()
-        self.assertEqual((ran.returncode, lines[:2]), (1, ["the library: failed", "    not made"]), ran.stderr)
-        return [line for line in lines if line.startswith("wants ")]
+    def test_what_is_left_out(self):
+        lacks = Check("b", "true", needs=("cc",))
+        self.assertEqual(self.tell(Check("a", "true"), lacks), (["no cc", "a: "], 1, 1))
+        self.assertEqual(self.tell(lacks, what_is_there=True), (["no cc"], 0, 0))
+        self.assertEqual(self.tell(Check("a", "true", also=(Need(lambda _: False, "a thing"),))), (["left out: a thing"], 0, 0))
+        self.assertEqual(self.tell(Check("a", "true", needs=("cc",), once=False), once=True), ([], 0, 0))
+        self.assertEqual(self.tell(Check("a", "false"), Check("b", "true", after="a"))[1:], (0, 1))
+        self.assertEqual(self.tell(Check("a", "true"), Check("b", "true", after="a"))[1:], (2, 0))
 
-    def test_rust_and_the_programs_are_tested(self):
-        rust = ["cargo", "cargo-clippy", "rustfmt", CRATES, CRATES_OF_BENCH]
-        self.assertEqual(self.wanted(), [f"wants {it}" for it in ("cc", *rust, "cargo")])
-
-    def test_once_leaves_the_programs_out(self):
-        self.assertEqual(self.wanted("--once")[-1], f"wants {CRATES_OF_BENCH}")
+    def test_names(self):
+        names = [check.name for language in LANGUAGES.values() for check in language.checks]
+        self.assertEqual(len({*names}), len(names))
+        for language in LANGUAGES.values():
+            before = {""}
+            for check in language.checks:
+                self.assertIn(check.after, before)
+                before.add(check.name)
 
 
 EXPORTS = TOP / "crates/string_interner_c/src/lib.rt"

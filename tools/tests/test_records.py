@@ -275,7 +275,7 @@ class Records(unittest.TestCase):
 
     def test_records_by_another_toolchain_are_named(self):
         write(self.here / "kit/KIT-ID", "kit-2 logic 0")
-        self.assertEqual(self.compare(), "no record of these sources: none is by this build of the toolchain, but by kit-1\n")
+        self.assertEqual(self.compare(), "no record of these sources: none is by this build of the toolchain, but by kit-1\n0 passed, 0 failed\n")
 
 
 @unittest.skipUnless(where_rt_is(), "no rt on this machine")

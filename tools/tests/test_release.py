@@ -13,8 +13,7 @@ from gate_log import PARTS
 
 # What the parts said, of which the second counts nothing, and what the gate says of them at its end.
 NAMES = sorted(name for name, row in PARTS.items() if "all" in row.forms)
-SAID = {name: f"== one\n{number} passed, 0 failed\n" if number % 2 else f"Ran {number} tests in 0.5s\n" for number, name in
-        enumerate(NAMES, 1)} | {NAMES[1]: "no record\n"}
+SAID = {name: f"== one\n{number} passed, 0 failed\n" for number, name in enumerate(NAMES, 1)} | {NAMES[1]: "no record\n"}
 COUNTS = {name: 0 if name == NAMES[1] else number for number, name in enumerate(NAMES, 1)}
 LOG = "".join(f"== {name}: begins\n== {name}\n{said}" for name, said in SAID.items()) + "== what it took\n" + "".join(
     f"{name}: {count} passed, 9 seconds, 32 processor seconds\n" for name, count in COUNTS.items()) + """\

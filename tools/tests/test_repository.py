@@ -157,7 +157,7 @@ class NeedsTest(unittest.TestCase):
     def test_what_is_missing(self):
         status, printed = self.run_main("sh", "no-such-command")
         self.assertEqual(printed, "no no-such-command on this machine: what needs it is left out. Debian's packages: one two\n")
-        self.assertEqual((status, needs.MISSING.findall(f"a\n{printed}b\n")), (1, [printed.strip()]))
+        self.assertEqual((status, printed.count("\n")), (1, 1))
 
     def test_a_toolchain(self):
         with tempfile.TemporaryDirectory() as folder, mock.patch.dict("os.environ", PATH=f"{folder}:/usr/bin:/bin"):

@@ -1,5 +1,5 @@
-//! Threads that intern, find and read texts in one interner, and compare what they read. A race detector watches (see `rust_races` in
-//! `clients/check`). The threads are the system's, because it does not see how Rust's hand a value over.
+//! Threads that intern, find and read texts in one interner, and compare what they read. A race detector watches ("Rust, threads that
+//! share an interner" of `clients/check`). The threads are the system's, because it does not see how Rust's hand a value over.
 
 use std::ffi::c_void;
 use std::ptr;

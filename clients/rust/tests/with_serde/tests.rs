@@ -1,5 +1,5 @@
 //! What serde writes and reads. These are the tests of a crate that asks for string-interner 0.19 with serde and names no path
-//! (see `rust_serde` in `clients/check`).
+//! ("Rust, serde" of `clients/check`).
 
 use std::fmt::Debug;
 

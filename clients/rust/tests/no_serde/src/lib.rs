@@ -1,6 +1,6 @@
 //! Stands for serde where cargo is run in the folder of string-interner, so that no command there needs a registry: it has the traits
 //! of serde that string-interner names, and nothing reads or writes by them. What they do is tested in a crate that depends on
-//! string-interner (`rust_serde` in `clients/check`).
+//! string-interner ("Rust, serde" of `clients/check`).
 
 #![no_std]
 

@@ -1,0 +1,5 @@
+//! Nothing but what it stands on.
+
+#![no_std]
+
+extern crate alloc;
