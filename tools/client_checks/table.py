@@ -129,13 +129,17 @@ class Need(NamedTuple):
     left_out: str
 
 
+# A line is a step.
+Steps = str | Callable[[Place], object]
+
+
 @dataclass(frozen=True)
 class Check:
     """A check: the name that is printed; the steps that it takes, or a function; what it tells then; what it needs of .ci/packages, and
     beside; which one must have passed before it; and whether --once has it."""
 
     name: str
-    steps: str | Callable[[Place], object]
+    steps: Steps
     tells: str = ""
     needs: tuple[str, ...] = ()
     also: tuple[Need, ...] = ()

@@ -13,7 +13,7 @@ from unittest import mock
 
 from small import link_commands
 from check_clients import LANGUAGES
-from client_checks.table import Check, Language, Need, Options, Told
+from client_checks.table import Check, Language, Need, Options, Steps, Told
 from source import functions
 from tree import TOP, read
 
@@ -241,23 +241,26 @@ class ChecksTest(unittest.TestCase):
         told = Told()
         missing = mock.patch("client_checks.table.missing", lambda needs: [f"no {it}" for it in needs])
         with missing, contextlib.redirect_stdout(io.StringIO()) as printed:
-            told.try_all(Language(checks), Options(**options))
+            told.try_all(Language([*checks]), Options(**options))
         return printed.getvalue().splitlines(), told.passed, told.failed
 
     def test_steps(self):
-        for steps, line in (
+        cases: tuple[tuple[Steps, str], ...] = (
             ("printf 'one\\ntwo\\n'", "it: two"),
             ("in $work NAME='a b' sh -c 'echo \"$$NAME $$0\" > file' $out\nin $work cat file", f"it: a b {TOP}/clients/out"),
             ("HOME= sh -c 'echo \"none:$$HOME\"'", "it: none:"),
             (lambda place: place.refused("^no", "sh -c 'echo no; exit 3'"), "it: no"),
             (lambda place: place.printed("cat", "a", given="a\n"), "it: a"),
             (lambda place: "said", "it: said"),
-        ):
+        )
+        for steps, line in cases:
             self.assertEqual(self.tell(Check("it", steps)), ([line], 1, 0))
 
     def test_what_fails(self):
-        for steps in ("true\nfalse\ntrue", "no-such-command", lambda place: place.refused("yes", "false"), lambda place: place.only("*"),
-                      lambda place: place.refused("", "true"), lambda place: place.printed("echo a", "b")):
+        failing: tuple[Steps, ...] = (
+            "true\nfalse\ntrue", "no-such-command", lambda place: place.refused("yes", "false"), lambda place: place.only("*"),
+            lambda place: place.refused("", "true"), lambda place: place.printed("echo a", "b"))
+        for steps in failing:
             lines, passed, failed = self.tell(Check("it", steps))
             self.assertEqual((lines[0], passed, failed), ("it: failed", 0, 1))
 
