@@ -50,7 +50,7 @@ PEERS = {
 }
 # The lines in four parts, and each part counted by a process of its own.
 IN_FOUR = """rm -rf {parts}; {program} shard 4 {parts} && printf '%s\\0' {parts}/[0-3] |
-xargs -0 -P4 -I@ sh -c '{program} count @ >@.counts' && cat {parts}/*.counts
+xargs -0 -P4 -I@ sh -c '{program} count --sorted @ >@.counts' && sort -m -s -k1,1nr {parts}/*.counts
 """
 # Runs a command, and prints its peak in KiB. Linux counts what the parent of a process holds when it starts, too, so the parent
 # is a small one.

@@ -24,8 +24,8 @@ from machine import tell_count
 LANGUAGES = {
     "c": Language(c.CHECKS, needs=("cc",)),
     "rust": Language(rust.CHECKS, needs=("cc", "cargo"), wants_library=False, place=rust.place_of_crate),
-    "python": Language(python.CHECKS, also=(python.HAS_MODULE,)),
-    "memcheck": Language(python.MEMCHECK, also=(python.HAS_MODULE,), once=False),
+    "python": Language(python.CHECKS, needs=("python3-config",), also=(python.HAS_MODULE,)),
+    "memcheck": Language(python.MEMCHECK, needs=("python3-config",), also=(python.HAS_MODULE,), once=False),
     "cargo": Language(c.BY_CARGO, needs=("cc", "cargo"), once=False, place=c.place_by_cargo),
     "programs": Language(rust.PROGRAMS, needs=("cc", "cargo"), wants_library=False, once=False),
 }

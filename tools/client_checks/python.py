@@ -159,7 +159,7 @@ CHECKS = [
     Check("Python, columns", columns, "run"),
     Check("Python, its types", "in $clients/python mypy --cache-dir=/dev/null", "", ("mypy",)),
     Check("Python, a wheel", wheel, "", (WHEEL,)),
-    Check("Python, a wheel for aarch64", on_aarch64, "", (WHEEL,), (CAN_CROSS_PYTHON,), once=False),
+    Check("Python, a wheel for aarch64", on_aarch64, "", (WHEEL, "cargo"), (CAN_CROSS_PYTHON,), once=False),
     Check("Python, its sources", sources, "built with the library, and says what is missing without it", (WHEEL,)),
     Check("Python, its sources and cargo", sources_by_cargo, "", ("cargo",), after="Python, its sources"),
 ]

@@ -123,9 +123,9 @@ def lint(place: Place, step: str) -> None:
 
 
 def lints(place: Place) -> None:
-    """What rustfmt, rustdoc and clippy say of all Rust that is written by hand; `proved` is what tools/erase writes. Programs that no
+    """What rustfmt, rustdoc and clippy say of all Rust that is written by hand: tools/erase writes `src/erased`. Programs that no
     package has are examples of a copy of the crate."""
-    place.run("find $top ( -name proved -o -name out -o -name target ) -prune -o -name '*.rs' -exec rustfmt --edition 2021 --check {} +")
+    place.run("find $top ( -path '*/src/erased' -o -name out -o -name target ) -prune -o -name '*.rs' -exec rustfmt --edition 2021 --check {} +")
     for it in "--all-features", "--no-default-features":
         place.run(f"in $clients/rust RUSTDOCFLAGS='-D warnings' cargo doc --offline {it}")
     lint(place, "in $clients clippy --all-targets --all-features")
@@ -156,8 +156,9 @@ def lints_of_bench(place: Place) -> None:
                                "[lints.clippy]", 'type_complexity = "allow"'],
     }.items():
         program = package("bench", "[[bin]]", 'name = "bench"', f'path = "{TOP}/bench/{name}"', "[dependencies]")
-        folder = place.write(f"lints/{name.partition('/')[0]}/Cargo.toml", *program, *dependencies)
-        lint(place, f"in {folder} clippy")
+        folder = f"lints/{name.partition('/')[0]}"
+        place.write(f"{folder}/Cargo.toml", *program, *dependencies)
+        lint(place, f"in $work/{folder} clippy")
 
 
 def layouts(place: Place) -> str:
@@ -239,19 +240,25 @@ def sources_of_rust() -> Path:
     return CACHE / f"rust-sources/usr/src/rustc-{'/'.join(ask('/usr/bin/rustc', '--version').split()[1:2])}/library"
 
 
+# What the example in wasm reads, and prints.
+TEXT = "the tiger and the  Löwe\nand\tthe 語 𝄞 tiger"
+WORDS = ("10 words, 6 distinct", "0 the: 3", "1 tiger: 2", "2 and: 2", "3 Löwe: 1", "4 語: 1", "5 𝄞: 1")
+
+
 def wasm_example(place: Place) -> str:
-    """Runs the example, in node and in a browser if there is one."""
-    text = "the tiger and the  Löwe\nand\tthe 語 𝄞 tiger"
-    wanted = ("10 words, 6 distinct", "0 the: 3", "1 tiger: 2", "2 and: 2", "3 Löwe: 1", "4 語: 1", "5 𝄞: 1")
+    """Runs the example in node."""
     example = "$clients/rust/examples/wasm"
     place.run(f"in $work/crate/examples/wasm {BUILD_FOR_WASM}")
     place.run("mkdir -p $work/site")
     place.run(f"cp {example}/index.html {example}/interner.mjs {example}/words.mjs $work/wasm/{WASM32}/release/interner.wasm $work/site")
-    place.printed("node $work/site/words.mjs", *wanted, given=f"{text}\n")
-    if not CAN_BROWSE.is_there(place):
-        return "the words of a text are numbered in node"
-    place.printed("$clients/rust/tests/wasm/browse $browser $work/site index.html $text", *wanted, browser=BROWSER, text=text)
-    return "the words of a text are numbered in node and in Chromium"
+    place.printed("node $work/site/words.mjs", *WORDS, given=f"{TEXT}\n")
+    return "the words of a text are numbered in node"
+
+
+def wasm_in_browser(place: Place) -> str:
+    """Runs the example in a browser."""
+    place.printed("$clients/rust/tests/wasm/browse $browser $work/site index.html $text", *WORDS, browser=BROWSER, text=TEXT)
+    return "the words of a text are numbered in Chromium"
 
 
 CAN_CROSS = Need(lambda _: all(map(shutil.which, ("aarch64-linux-gnu-gcc", "qemu-aarch64"))) and Path(
@@ -271,7 +278,7 @@ LINTERS = Need(lambda _: ask("cargo", "clippy", "--version") and ask("rustfmt", 
 HAS_OLDEST = Need(lambda _: oldest_compiler(), f"the oldest compiler (rustup toolchain install {OLDEST}, or .ci/run)")
 ORIGINAL = Need(lambda place: place.options.original, "the tests of the original Rust crate (./check all --original FOLDER)")
 TESTS, LINTED, NO_WARNING = "{} tests passed", "Rust, its form and lints", "no warning"
-SUITE, LIBRARIES = "Rust, a proved program by rustc", "Rust, libraries for wasm"
+SUITE, LIBRARIES, WASM_EXAMPLE = "Rust, a proved program by rustc", "Rust, libraries for wasm", "Rust, the example in wasm"
 CHECKS = [
     # The plain Rust that the crate has of the proved source is what the eraser writes today.
     Check("Rust, the proved source", "$top/tools/erase --check"),
@@ -344,7 +351,8 @@ CHECKS = [
         in $work/crate/tests/wasm {BUILD_FOR_WASM}
         $clients/rust/beside 2 node $clients/rust/tests/wasm/run.mjs $work/wasm/{WASM32}/release/module.wasm""",
           after=LIBRARIES, once=False),
-    Check("Rust, the example in wasm", wasm_example, after=LIBRARIES, once=False),
+    Check(WASM_EXAMPLE, wasm_example, after=LIBRARIES, once=False),
+    Check("Rust, the example in a browser", wasm_in_browser, also=(CAN_BROWSE,), after=WASM_EXAMPLE, once=False),
     Check("Rust, the original's tests", "$clients/rust/original $original", also=(ORIGINAL,)),
     Check("Rust, the first program", first, "run"),
 ]

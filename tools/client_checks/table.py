@@ -55,8 +55,8 @@ class Place:
         """Whether a command is there that repeats what runs without it, and repeating is wanted."""
         return not self.options.once and shutil.which(command) is not None
 
-    def run(self, step: str, given: str = "", must_fail: bool = False, /, **names: object) -> str:
-        """Runs a command, and returns what it prints, on both outputs. It is `[in FOLDER] [NAME=VALUE ..] WORD ..`, quoted as for a
+    def run(self, step: str, given: str = "", status: int | None = 0, /, **names: object) -> str:
+        """Runs a command, and returns what it prints, on both outputs. It must end with this status, or, with none, fail by itself. It is `[in FOLDER] [NAME=VALUE ..] WORD ..`, quoted as for a
         shell, with names of this place and others behind a `$`. A setting without a value is not set."""
         values = {name: str(it) for name, it in (self.names | names).items()}
         words = [Template(it).substitute(values) for it in shlex.split(step)]
@@ -71,15 +71,16 @@ class Place:
             ran = subprocess.run(words, cwd=folder, env=environment, input=given, stdout=subprocess.PIPE, stderr=subprocess.STDOUT,
                                  encoding="utf-8", errors="replace", timeout=self.hangs, check=False)
         except subprocess.TimeoutExpired as why:
+            self.log += (why.stdout or b"").decode(errors="replace")
             raise Failed(str(why)) from None
         self.log += ran.stdout
-        if must_fail != bool(ran.returncode):
+        if ran.returncode <= 0 if status is None else ran.returncode != status:
             raise Failed(f"{words[0]} ended with status {ran.returncode}")
         return ran.stdout
 
-    def refused(self, why: str, step: str, *, given: str = "", **names: object) -> None:
+    def refused(self, why: str, step: str, *, given: str = "", status: int | None = None, **names: object) -> None:
         """Runs a command that must fail, and say what this pattern has."""
-        if not re.search(why, self.run(step, given, True, **names)):
+        if not re.search(why, self.run(step, given, status, **names)):
             raise Failed(f"does not say: {why}")
 
     def printed(self, step: str, *lines: str, given: str = "", **names: object) -> None:
@@ -183,8 +184,10 @@ class Told:
             self.passed, self.failed = self.passed + passed, self.failed + failed
 
     def leave_out(self, what: str, line: str, failed: int = 0) -> None:
-        if what not in self.left_out:
-            self.left_out.append(what)
+        with self.lock:
+            is_new = what not in self.left_out
+            self.left_out += [what] * is_new
+        if is_new:
             self.tell(line, failed=failed)
 
     def try_one(self, check: Check, place: Place) -> bool:

@@ -1,6 +1,6 @@
 //! Symbols: the small values that stand for texts.
 
-use crate::erased;
+use crate::erased::symbol as proved;
 use crate::sealed::Sealed;
 use core::num::{NonZeroU16, NonZeroU32, NonZeroUsize};
 
@@ -178,7 +178,7 @@ impl<S: Symbol> PartialEq for SymbolAdapter<S> {
 
 impl<S: Symbol> Eq for SymbolAdapter<S> {}
 
-impl<S: Symbol> erased::symbol::Symbol for SymbolAdapter<S> {
+impl<S: Symbol> proved::Symbol for SymbolAdapter<S> {
     #[inline(always)]
     fn try_from_usize(index: usize) -> Option<Self> {
         S::try_from_usize(index).map(SymbolAdapter)

@@ -19,7 +19,7 @@ fn add_unsafe(folder: &Path, found: &mut Vec<String>) {
         let path = entry.unwrap().path();
         let name = path.strip_prefix(SOURCES).unwrap().to_str().unwrap();
         if path.is_dir() {
-            if name != "proved" {
+            if name != "erased" {
                 add_unsafe(&path, found);
             }
         } else if is_unsafe(&fs::read_to_string(&path).unwrap()) {
