@@ -125,7 +125,8 @@ def lint(place: Place, step: str) -> None:
 def lints(place: Place) -> None:
     """What rustfmt, rustdoc and clippy say of all Rust that is written by hand: tools/erase writes `src/erased`. Programs that no
     package has are examples of a copy of the crate."""
-    place.run("find $top ( -path '*/src/erased' -o -name out -o -name target ) -prune -o -name '*.rs' -exec rustfmt --edition 2021 --check {} +")
+    left = "( -path '*/src/erased' -o -name out -o -name target ) -prune"
+    place.run(f"find $top {left} -o -name '*.rs' -exec rustfmt --edition 2021 --check {{}} +")
     for it in "--all-features", "--no-default-features":
         place.run(f"in $clients/rust RUSTDOCFLAGS='-D warnings' cargo doc --offline {it}")
     lint(place, "in $clients clippy --all-targets --all-features")

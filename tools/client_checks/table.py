@@ -56,8 +56,9 @@ class Place:
         return not self.options.once and shutil.which(command) is not None
 
     def run(self, step: str, given: str = "", status: int | None = 0, /, **names: object) -> str:
-        """Runs a command, and returns what it prints, on both outputs. It must end with this status, or, with none, fail by itself. It is `[in FOLDER] [NAME=VALUE ..] WORD ..`, quoted as for a
-        shell, with names of this place and others behind a `$`. A setting without a value is not set."""
+        """Runs a command, and returns what it prints, on both outputs. It must end with this status, or, with none, fail by itself. It
+        is `[in FOLDER] [NAME=VALUE ..] WORD ..`, quoted as for a shell, with names of this place and others behind a `$`. A setting
+        without a value is not set."""
         values = {name: str(it) for name, it in (self.names | names).items()}
         words = [Template(it).substitute(values) for it in shlex.split(step)]
         folder = Path(words[1]) if words[0] == "in" else TOP
