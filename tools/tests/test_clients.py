@@ -9,9 +9,12 @@ import subprocess
 import tempfile
 import unittest
 from pathlib import Path
+from string import Template
 from unittest import mock
 
 from small import link_commands
+import check_clients
+from client_checks import c
 from check_clients import LANGUAGES
 from client_checks.table import Check, Language, Need, Options, Steps, Told
 from source import functions
@@ -279,6 +282,25 @@ class ChecksTest(unittest.TestCase):
         self.assertEqual(self.tell(Check("a", "true", needs=("cc",), once=False), once=True), ([], 0, 0))
         self.assertEqual(self.tell(Check("a", "false"), Check("b", "true", after="a"))[1:], (0, 1))
         self.assertEqual(self.tell(Check("a", "true"), Check("b", "true", after="a"))[1:], (2, 0))
+
+    def test_languages_without_the_library(self):
+        languages = {"wants": Language([Check("a", "true")]), "apart": Language([Check("b", "true")], wants_library=False)}
+        for built, lines, counts in (("true", {"the library: ", "a: ", "b: "}, (3, 0)),
+                                     ("false", {"the library: failed", "left out: all that wants the library", "b: "}, (1, 1))):
+            told = Told()
+            changed = mock.patch.dict(LANGUAGES, languages, clear=True)
+            with changed, mock.patch.object(c, "BUILT", Check("the library", built)):
+                with contextlib.redirect_stdout(io.StringIO()) as printed:
+                    check_clients.run_languages([*languages], Options(), told)
+            self.assertEqual(({it for it in printed.getvalue().splitlines() if it[0] != " "}, (told.passed, told.failed)), (lines, counts))
+
+    def test_each_name_of_a_step_is_known(self):
+        for language in LANGUAGES.values():
+            with tempfile.TemporaryDirectory() as work:
+                known = language.place(Path(work), Options()).names
+                for check in language.checks:
+                    if isinstance(check.steps, str):
+                        Template(check.steps).substitute(known)
 
     def test_names(self):
         names = [check.name for language in LANGUAGES.values() for check in language.checks]
