@@ -21,6 +21,7 @@ COMMANDS = [
     ("dictcol encode", "shuffled"),
     ("sort -u", "shuffled"),
     ("dictcol count", "in order"),
+    ("dictcol shard, four counts", "in order"),
     ("mawk", "in order"),
     ("dictcol distinct", "in order"),
     ("mawk, distinct", "in order"),
@@ -47,6 +48,10 @@ PEERS = {
     "Rust": shlex.quote(str(HERE / "out/peer/target/release/peer")),
     "Python": f"{sys.executable} -c {shlex.quote(IN_PYTHON)}",
 }
+# The lines in four parts, and each part counted by a process of its own.
+IN_FOUR = """rm -rf {parts}; {program} shard 4 {parts} && printf '%s\\0' {parts}/[0-3] |
+xargs -0 -P4 -I@ sh -c '{program} count --sorted @ >@.counts' && sort -m -s -k1,1nr {parts}/*.counts
+"""
 # Runs a command, and prints its peak in KiB. Linux counts what the parent of a process holds when it starts, too, so the parent
 # is a small one.
 PEAK = """import resource, subprocess, sys
@@ -69,6 +74,16 @@ def lines_of(name, number):
     if name == "shuffled":
         chooser.shuffle(lines)
     return lines
+
+
+def words_of(command, program, folder):
+    """What a shell runs for a command."""
+    if command in PEERS:
+        return PEERS[command]
+    program = shlex.quote(str(program))
+    if "shard" in command:
+        return f"sh -c {shlex.quote(IN_FOUR.format(program=program, parts=shlex.quote(f'{folder}/parts')))}"
+    return command.replace("dictcol", program)
 
 
 def time_runs(command, given):
@@ -102,7 +117,6 @@ def measure_columns(program, number, measure):
             subprocess.run([program, "encode"], check=True, stdin=lines, stdout=encoded)
         for command, given in COMMANDS:
             size = files["in order" if given == "encoded" else given].stat().st_size / number
-            words = PEERS.get(command, command.replace("dictcol", shlex.quote(str(program))))
-            for what, value in measure(words, files[given]).items():
+            for what, value in measure(words_of(command, program, folder), files[given]).items():
                 row = (command, "-", "-", "-", given, number, f"{size:.1f}", what, f"{value / number:.2f}")
                 yield "\t".join(map(str, row))

@@ -24,7 +24,7 @@ from needs import missing
 from tree import TOP
 
 # What shell scripts read, and have no first line that says so.
-READ_BY_SHELL = ("bin/current", "bin/program", "bin/proving")
+READ_BY_SHELL = ("bin/lib/stamp.sh", "bin/lib/find.sh", "bin/lib/prove.sh")
 # The tests of the Python package pass what they must not, and clients/check has mypy look at the package and its examples.
 OF_PACKAGE = ("clients/python/examples/", "clients/python/string_interner/", "clients/python/tests/")
 UNTYPED = ("--follow-imports=silent", "--allow-untyped-defs", "--allow-untyped-calls", "--allow-incomplete-defs")

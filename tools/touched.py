@@ -1,7 +1,7 @@
 #!/usr/bin/env python3
 """Prints which planted bugs the changes since the last run can touch, a line each: CRATE NAME
 
-The file tools/tried-in-full has three lines: the last commit on which each planted bug that the prover must refuse was refused,
+The file tools/bugs-last-run has three lines: the last commit on which each planted bug that the prover must refuse was refused,
 either in that run or in an earlier one with no change since then that touches it; the toolchain's logic; and the last commit on
 which one run tried all of them. A planted bug is touched if something of this has changed since the first commit: its lines, in
 whichever table; the text of its function, and what stands outside functions in the same source; a file that its lines name; a proof
@@ -20,7 +20,7 @@ from machine import ask_rt
 from source import find_functions, functions, outside_functions
 from tree import TOP, below, crates, read, write
 
-TRIED = TOP / "tools/tried-in-full"
+TRIED = TOP / "tools/bugs-last-run"
 NAMED = re.compile(r"^(?:pub )?(?:struct|enum|trait|type|const|static) (\w+)", re.M)
 
 
@@ -76,7 +76,7 @@ def logic() -> str:
 
 
 def lines_of_runs() -> list[str]:
-    """The lines of tools/tried-in-full."""
+    """The lines of tools/bugs-last-run."""
     return read(TRIED).splitlines() if TRIED.exists() else []
 
 

@@ -37,7 +37,7 @@ NEEDS = {
 }
 # Puts what was built elsewhere into its place, where it counts as newer than its sources.
 TAKE = """set -eu
-. bin/proving
+. bin/lib/prove.sh
 for name in intern dictcol; do
   if [ -x "$1/crates/$name/out/$name" ]; then
     cp "$1/crates/$name/out/$name" "crates/$name/out"

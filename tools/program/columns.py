@@ -20,7 +20,7 @@ from pathlib import Path
 from built import ENDING, SECONDS, end_of, holding
 from needs import python_with
 from program.cases import MANY
-from program.reckon import answer, failed, misused, skip_invalid, told, unwritten, warned
+from program.expected import answer, end_of_get, failed, misused, skip_invalid, told, unwritten, warned
 from program.streams import limit_files
 from trials import alone, own_folder
 
@@ -121,6 +121,52 @@ def try_onto(program, first, second):
     words = b"encode --onto old --plain old".split()
     yield f"{name}, in place", program.run(words, second), OK
     yield f"{name}, files in place", files_in("old"), columns_of(second, known)
+
+
+def rows_behind(first, second):
+    """The text of the rows of two: if there is a second one, it begins a line."""
+    return first + b"\n" * (bool(first and second) and not first.endswith(b"\n")) + second
+
+
+def try_append(program, first, second):
+    """Rows come behind those of a folder, also of one that is not there, and each text begins a line."""
+    name = f"{second[:40]} behind {first[:40]}"
+    write_files("columns", columns_of(first))
+    for backend in BACKENDS:
+        words = [b"encode", b"--append", b"--plain", b"new/" + backend, b"--backend", backend]
+        yield f"{name} over {backend}, the first", program.run(words, first), OK
+        yield f"{name} over {backend}", program.run(words, second), OK
+        yield f"{name}, files of {backend}", files_in(f"new/{backend.decode()}"), columns_of(rows_behind(first, second))
+    words = b"encode --plain columns --append".split()
+    yield f"{name}, of a folder", program.run(words, second), OK
+    yield f"{name}, files of a folder", files_in("columns"), columns_of(rows_behind(first, second))
+    # A dictionary with a line that no row has, which keeps its code.
+    known = [b"before", *dict.fromkeys(first.removesuffix(b"\n").split(b"\n") if first else [])]
+    write_files("unused", columns_of(first, known))
+    yield f"{name}, with a line without a row", program.run(b"encode --plain unused --append".split(), second), OK
+    lines = first.removesuffix(b"\n").split(b"\n") if first else []
+    more = second.removesuffix(b"\n").split(b"\n") if second else []
+    index = {line: number for number, line in enumerate(dict.fromkeys([*known, *lines, *more]))}
+    codes = [index[line] for line in (*lines, *more)]
+    yield f"{name}, dictionary with a line without a row", files_in("unused")["dict.txt"], b"".join(line + b"\n" for line in index)
+    yield f"{name}, numbers with a line without a row", files_in("unused")["codes.npy"], npy(codes)
+
+
+def try_append_refused(program):
+    """Nothing is appended to damaged columns, nor where another option says what the columns begin with."""
+    for name in "dict.txt", "codes.npy":
+        files = columns_of(LINES)
+        del files[name]
+        write_files(f"without {name}", files)
+        ended = program.run([b"encode", b"--append", b"--plain", b"without " + name.encode()], b"a\n")
+        advice = b" (see --onto-dictionary)" if name == "codes.npy" else b""
+        yield f"appended without {name}", ended, failed(1, f"without {name}: cannot read {name}: ".encode() + told(errno.ENOENT) + advice)
+        yield f"appended without {name}, files", files_in(f"without {name}"), files
+    files = columns_of(LINES) | {"dict.txt": b"red\n"}
+    write_files("damaged", files)
+    ended = program.run(b"encode --append --plain damaged".split(), b"a\n")
+    yield "appended to damaged columns", ended[0], 2
+    yield "appended to damaged columns, files", files_in("damaged"), files
 
 
 def try_output(program):
@@ -591,6 +637,20 @@ def try_killed_writers(program, old):
         yield f"{name}, files of the next", files_in("it"), columns_of(SECOND)
 
 
+APPEND = b"encode --append --plain it".split()
+
+
+def try_killed_appenders(program, old):
+    """Wherever a run is killed that appends rows, the next one that does finds the rows from before, or those of the run, too."""
+    before = b"" if old is None else old
+    for name, run in each_stop(program, APPEND, FIRST, old):
+        if run.is_stopped:
+            run.end(signal.SIGKILL)
+        yield f"{name}, the next append", program.run(APPEND, THIRD), OK
+        behind = [rows_behind(before, THIRD), rows_behind(rows_behind(before, FIRST), THIRD)]
+        yield f"{name}, rows", files_in("it") in map(columns_of, behind), True
+
+
 def end_early(run, number):
     """How a run ends by one of these signals, and how it must."""
     by = ENDING[number % len(ENDING)]
@@ -641,7 +701,7 @@ def try_writers(program, old):
         yield f"{name}, files", files_in("it"), columns_of(last)
 
 
-READ, READ_ONTO = b"decode it".split(), b"encode --onto it --plain new".split()
+READ, READ_ONTO, GET = b"decode it".split(), b"encode --onto it --plain new".split(), b"get it red green blue".split()
 # A text with the codes of FIRST, and with another end: beside its third file, codes of FIRST are no others.
 ALIKE = b"blue\nwhite\nblue\n"
 
@@ -650,13 +710,15 @@ def is_read(words, ended, after):
     """Whether a run has read the first text, or the one after it."""
     if words == READ:
         return ended in ((0, FIRST, b""), (0, after, b""))
+    if words == GET:
+        return ended in [end_of_get(b"it", columns_of(it)["dict.txt"], words[2:]) for it in (FIRST, after)]
     wanted = [columns_of(b"red\n", [*dict.fromkeys(it.removesuffix(b"\n").split(b"\n"))]) for it in (FIRST, after)]
     return ended == OK and files_in("new") in wanted
 
 
 def try_readers(program, after):
     """Wherever files are replaced by those of another text beside a run that reads them, it gets those of one run."""
-    for words in READ, READ_ONTO:
+    for words in READ, READ_ONTO, GET:
         for name, run in each_stop(program, words, b"red\n", FIRST):
             yield f"{name}, the writer", program.run(WRITE, after), OK
             ended = run.end()
@@ -665,7 +727,7 @@ def try_readers(program, after):
 
 def try_readers_beside(program):
     """Wherever a run reads files beside one that replaces them, it gets those of one run. It waits for them if it must."""
-    for words in READ, READ_ONTO:
+    for words in READ, READ_ONTO, GET:
         for name, run in each_stop(program, WRITE, SECOND, FIRST):
             with holding(b"red\n") as given, subprocess.Popen([program.path, *words], stdin=given, stdout=subprocess.PIPE,
                                                               stderr=subprocess.PIPE) as reader:
@@ -823,7 +885,8 @@ def try_race(program):
 def try_refused(program):
     """Each request for memory is refused in turn: the folder has the files from before, those of the run, or no numbers."""
     old, new = columns_of(LINES), columns_of(b"blue\ngreen")
-    for words in (b"encode --plain it".split(), b"encode --onto it --plain it".split(), b"decode it".split()):
+    for words in (b"encode --plain it".split(), b"encode --onto it --plain it".split(), b"decode it".split(),
+                  b"get it red green".split(), b"get --check it green".split()):
         wanted = new if b"--onto" not in words else columns_of(b"blue\ngreen", LINES.split(b"\n")[:-1])
         for number in itertools.count(1):
             for path in Path().glob("it/*"):
@@ -840,7 +903,7 @@ def try_refused(program):
                 yield name, (ended.status, ended.output), (1, b"")
                 yield f"{name}, files", found, old
             else:
-                yield f"{name}, files", found, old if b"decode" in words else wanted
+                yield f"{name}, files", found, old if words[0] != b"encode" else wanted
 
 
 # What NumPy says of the codes, mapped, and that it saves them as they are.
@@ -874,6 +937,7 @@ def try_random(program, seed):
     words = ["".join(chance.choices("ab\r é", k=chance.randrange(3))) for _ in range(8)]
     first, second = ("\n".join(chance.choices(words, k=chance.randrange(20))).encode() + chance.choice([b"", b"\n"]) for _ in "ab")
     yield from try_onto(program, first, second)
+    yield from try_append(program, first, second)
     files = columns_of(first)
     name = chance.choice([it for it in ("dict.txt", "codes.npy") if files[it]])
     damaged = bytearray(files[name])
@@ -891,11 +955,13 @@ def trials():
     return [
         *((try_text, data) for data in TEXTS),
         *((try_onto, *both) for both in itertools.product(TEXTS[:-2], repeat=2)),
+        *((try_append, *both) for both in itertools.product(TEXTS[:-2], repeat=2)),
         *((try_damaged, *given) for given in DAMAGED),
         *((try_repeated, *given) for given in REPEATED),
         *((try_pair, *given) for given in OF_TWO_RUNS),
         *((try_end, *given) for given in OF_ANOTHER_END),
-        *((trial, old) for trial in (try_killed_writers, try_ended_writers, try_writers) for old in (None, SECOND, THIRD)),
+        *((trial, old) for trial in (try_killed_writers, try_killed_appenders, try_ended_writers, try_writers)
+          for old in (None, SECOND, THIRD)),
         *((try_writer_that_reads, *given) for given in ((WRITE, ()), (EXTEND, (b"red", b"green")))),
         *((try_readers, after) for after in (SECOND, ALIKE)),
         *((try_random, seed) for seed in range(100)),

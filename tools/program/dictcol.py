@@ -10,9 +10,9 @@ import resource
 import subprocess
 from itertools import chain, count, product
 
-from program import closed, columns, distinct, pairs, shards, shell
+from program import closed_streams, columns, distinct, get, pairs, shards, shell
 from program.cases import MANY, MEBIBYTE, cases, rows
-from program.reckon import MEMORY, answer, failed, is_sorted, misused, unreadable, unwritable, value_of, warned
+from program.expected import MEMORY, answer, failed, is_sorted, misused, unreadable, unwritable, value_of, warned
 from program.requests import OUTPUT_BUFFER, asks_of_lines
 from program.shards import MULTIPLIER, START, mixed
 from program.streams import Streams
@@ -44,9 +44,9 @@ def operands(words):
 
 
 def lists_files(words):
-    """Whether a run asks for a list of files: it does once it reads the name of one, which `shard` has a number and a folder before."""
+    """Whether a run asks for a list of files, or of texts: it does once it reads the first of them, behind the operands of its command."""
     found = operands(words)
-    return len(found) > (3 if found[:1] == [b"shard"] else 1)
+    return len(found) > {b"shard": 3, b"get": 2}.get(*found[:1] or [b""], 1)
 
 
 def lists_inputs(words, asks):
@@ -372,8 +372,8 @@ def parts():
     return {
         "cases": cases(CASES, try_case),
         "tables": rows(CASES, TABLES),
-        "streams": [*STREAMS.trials(), *shell.trials(), *closed.trials(), *distinct.trials(), *pairs.trials()],
-        "columns": columns.trials(),
+        "streams": [*STREAMS.trials(), *shell.trials(), *closed_streams.trials(), *distinct.trials(), *pairs.trials()],
+        "columns": [*columns.trials(), *get.trials()],
         "shards": shards.trials(),
         "random": [(trial, seed) for trial in (try_random_lines, shell.try_random_bytes) for seed in range(200)],
         # Made as they are run: what this process holds counts for the programs that it starts.

@@ -7,7 +7,7 @@ import select
 import subprocess
 
 from built import SECONDS, Program
-from program.reckon import answer, unreadable
+from program.expected import answer, unreadable
 from trials import Seen, Trial
 
 # What is written to the input at once, and what comes of it while the input is open.

@@ -9,7 +9,7 @@ from pathlib import Path
 
 from built import Program
 from program.columns import columns_of, files_in, write_files
-from program.reckon import Ended, answer, find_invalid, is_utf8, line_end, mend, pick
+from program.expected import Ended, answer, find_invalid, is_utf8, line_end, mend, pick
 from program.shards import shards_of
 from tree import TOP
 from trials import Seen, Trial
@@ -19,7 +19,8 @@ Parts = tuple[bytes, ...]
 GOOD = b"a\nb\nb", b"\n\0a\0b\0b", "\0é\nc".encode()
 BAD = b"a\nb\nb", b"\n\0a\0b\0b\xff\0\nb\xff\n\xc3", b"\n\xff\0c\n"
 SHARDS, KNOWN = 3, [b"old", b"b"]
-SOURCE = (TOP / "crates/dictcol/src/arguments.rt").read_bytes()
+KNOWN_TEXT = b"".join(line + b"\n" for line in KNOWN)
+SOURCE = (TOP / "crates/dictcol/src/arguments/options.rt").read_bytes()
 
 # The words of each choice of an option, also of none.
 Choices = tuple[list[bytes], ...]
@@ -28,7 +29,9 @@ INVALID: Choices = [], [b"--invalid=error"], [b"--invalid=replace"], [b"--invali
 ENDED: Choices = [], [b"-z"], [b"--zero-terminated"]
 ROWS: Choices = [], [b"--sorted"], [b"--top=2"], [b"--at-least=2"], [b"--top=3", b"--at-least=2"]
 FIELD: Choices = [], [b"--field=1", b"-tb"], [b"-f2", b"--separator=b"], [b"-f1"]
-PLAIN: Choices = [], [b"--plain=new"], [b"--plain=new", b"--onto=old"], [b"--plain=new", b"--onto-dictionary=old"]
+PLAIN: Choices = (
+    [], [b"--plain=new"], [b"--plain=new", b"--onto=old"], [b"--plain=new", b"--onto-dictionary=old"], [b"--plain=new", b"--append"],
+)
 MENDING, ONTO = {b"--invalid=replace", b"--invalid=skip"}, {b"--onto=old", b"--onto-dictionary=old"}
 # The choices that a command has, of which each is made beside each of the others.
 COMMANDS = {
@@ -87,6 +90,8 @@ def end_with(command: bytes, options: list[bytes], names: list[bytes], texts: li
         exchange = bytes.maketrans(b"\n" + end, end + b"\n")
         shards = shards_of(text.translate(exchange), SHARDS)
         return (0, b"", told), {name: lines if name == "order" else lines.translate(exchange) for name, lines in shards.items()}
+    if b"--append" in options:
+        return (0, b"", told), columns_of(KNOWN_TEXT + text)
     if b"--plain=new" in options:
         return (0, b"", told), columns_of(text, KNOWN if ONTO & {*options} else ())
     word = command.partition(b" ")[0]
@@ -111,11 +116,15 @@ def try_together(program: Program, command: bytes, way: Way, parts: Parts) -> Se
     """Each option does what it does alone, beside whatever others."""
     operands, option, names = way
     chance = random.Random(0)
-    write_files("old", columns_of(b"".join(line + b"\n" for line in KNOWN)))
+    before = columns_of(KNOWN_TEXT)
+    write_files("old", before)
     texts, given = write_all(command, option, names, parts)
     for options in (sum(chosen, option) for chosen in product(*COMMANDS[command])):
         words = place([*command.split(), *operands], options, chance)
         wanted, made = end_with(command, options, names, texts)
+        if b"--append" in options:
+            write_files("new", before)
+            made = made or before
         yield f"{words} of {parts}", program.run(words, given), wanted
         new = Path("new")
         yield f"{words} of {parts}, files", files_in(new) if new.exists() else None, made
@@ -124,10 +133,10 @@ def try_together(program: Program, command: bytes, way: Way, parts: Parts) -> Se
 
 def options_of(command: bytes) -> set[bytes]:
     """The options that a command takes, by the table of the program."""
-    found = re.findall(rb"const (\w+): &\[Command\] = &\[(.*?)\];", SOURCE, re.S)
-    lists = {name: re.findall(rb"Command::\w+", commands) for name, commands in found}
-    name = b"Command::" + command.title()
-    return {option for option, of in re.findall(rb'\("(-[\w-]+)", Setting::\w+, \w+, (\w+)\)', SOURCE) if name in lists[of]}
+    found = re.findall(rb"const (\w+): &\[CommandName\] = &\[(.*?)\];", SOURCE)
+    lists = {name: commands.split(b", ") for name, commands in found}
+    rows = re.findall(rb'\("(-[\w-]+)", Setting::\w+, \w+, (\w+)\)', SOURCE)
+    return {option for option, of in rows if command.title() in lists[of]}
 
 
 def tried_options(command: bytes) -> Iterator[bytes]:

@@ -3,7 +3,7 @@
 from collections import Counter
 from collections.abc import Sequence
 
-from program.reckon import is_sorted, number_of
+from program.expected import is_sorted, number_of
 from rooms import ROOMS, BackendRoom, Interner, Memory, Room, Slots
 
 # In bytes: the buffer of standard output, and the block that an input is read to; what `encode` holds before it writes; of `count` a

@@ -14,7 +14,7 @@ from pathlib import Path
 
 from program.columns import (NOT_LEFT, OK, UNFINISHED, all_in, columns_of, each_stop, end_early, files_in, is_begun, make_unlike,
                              npy)
-from program.reckon import failed, misused, skip_invalid, told, warned
+from program.expected import failed, misused, skip_invalid, told, warned
 from tree import TOP
 from trials import alone, own_folder
 

@@ -18,7 +18,7 @@ from pathlib import Path
 
 from built import end_of, holding
 from program.columns import OK, columns_of, files_in
-from program.reckon import ENCODED, MEMORY, answer, failed, is_utf8, misused, told, unreadable, unwritten, warned
+from program.expected import ENCODED, MEMORY, answer, failed, is_utf8, misused, told, unreadable, unwritten, warned
 from program.requests import asks_of_lines
 from program.streams import limit_files
 from tree import TOP

@@ -3,7 +3,7 @@
 from collections.abc import Iterable, Sequence
 from typing import Any
 
-from program.reckon import is_utf8
+from program.expected import is_utf8
 
 BACKENDS = (b"string", b"bucket", b"buffer")
 GREATEST_SYMBOL = 2**32 - 2

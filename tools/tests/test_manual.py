@@ -24,17 +24,17 @@ def help_text(program: str = "dictcol") -> str:
 
 
 def table() -> dict[str, bool]:
-    """The options of the table in arguments.rt, and whether each has a value."""
-    source = (CRATE / "src/arguments.rt").read_text()
+    """The options of the table in options.rt, and whether each has a value."""
+    source = (CRATE / "src/arguments/options.rt").read_text()
     rows = re.findall(r'^    \("(--?[a-z][a-z0-9-]*)", Setting::\w+, (true|false), \w+\),$', source, re.M)
     return {name: has_value == "true" for name, has_value in rows}
 
 
 def words_of(taker: str) -> list[str]:
-    """The words that a function of arguments.rt takes, each in an arm of its match."""
-    source = (CRATE / "src/arguments.rt").read_text()
-    body = source.partition(f"    fn {taker}(")[2].partition("\n    }\n")[0]
-    return re.findall(r'^            "([a-z]+)" => ', body, re.M)
+    """The words that a function of given.rt takes, each in an arm of its match."""
+    source = (CRATE / "src/arguments/given.rt").read_text()
+    body = source.partition(f"fn {taker}(")[2].partition("\n    }\n")[0]
+    return re.findall(r'^ +"([a-z]+)" => ', body, re.M)
 
 
 def options_of(text: str) -> set[str]:
@@ -130,7 +130,7 @@ class CompletionsTest(unittest.TestCase):
 
     def test_commands(self) -> None:
         commands = sorted(words_of("take_command"))
-        self.assertEqual(len(commands), 6)
+        self.assertEqual(len(commands), 7)
         for before in ((), ("--sorted",), ("--backend", "string"), ("--backend", "=", "string")):
             self.assertEqual(self.offered(*before, ""), commands)
         self.assertEqual(self.offered("me"), ["merge"])
@@ -139,7 +139,7 @@ class CompletionsTest(unittest.TestCase):
             self.assertEqual(self.offered(*before, ""), [])
 
     def test_values(self) -> None:
-        for option, taker in (("--backend", "take_backend"), ("--invalid", "take_mending")):
+        for option, taker in (("--backend", "parse_backend"), ("--invalid", "parse_mending")):
             values = sorted(words_of(taker))
             self.assertEqual(len(values), 3)
             for words in ((option, ""), ("count", option, ""), ("count", option, "="), ("count", option, "=", "")):

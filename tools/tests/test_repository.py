@@ -62,7 +62,7 @@ class WeighTest(unittest.TestCase):
 
     def test_what_machines_make(self):
         made = {"docs/use/pictures/", "bench/measured/", "records/", "clients/rust/src/erased/", "clients/c/src/erased/",
-                "clients/programs/src/erased/", "crates/suite/large/", "tools/tried-in-full"}
+                "clients/programs/src/erased/", "crates/suite/large/", "tools/bugs-last-run"}
         found = {name: next((it for it in made if name.startswith(it)), "") for name, it in self.weights.items() if it.is_made}
         self.assertEqual({*found.values()}, made)
         self.assertIn("crates/suite/large/choose.py", {*self.weights} - {*found})

@@ -49,7 +49,7 @@ class TryGuideTest(SmallRepository):
             patch = mock.patch.object(module, "TOP", self.top)
             patch.start()
             self.addCleanup(patch.stop)
-        self.write("bin/proving", "sources_of() { echo \"$1\"; }\n")
+        self.write("bin/lib/prove.sh", "sources_of() { echo \"$1\"; }\n")
         self.write("crates/yours/src/main.c", "")
 
     def outcome(self, page, name="docs/use/c.md", *words):

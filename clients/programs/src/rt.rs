@@ -22,7 +22,7 @@ pub mod os {
 
     pub mod unix {
         pub mod fs {
-            pub use super::super::super::fs::{fchown, MetadataExt, OpenOptionsExt};
+            pub use super::super::super::fs::{fchown, FileExt, MetadataExt, OpenOptionsExt};
         }
     }
 }

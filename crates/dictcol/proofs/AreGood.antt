@@ -11,8 +11,8 @@ use Rattle.string_interner.specs.Extend.{texts_of}
 use Rattle.dictcol.specs.Names.{dash, is_dash, AreGood, IsNamesFault, IsWrong, Names}
 use Rattle.dictcol.specs.declared.names.NameFault.{NameFault}
 use Rattle.dictcol.specs.declared.names.NameFault.TheVariants.{Empty, NotUtf8, ListIsInput, InputTwice, Memory}
-use Rattle.dictcol.specs.declared.request.Source.{Source}
-use Rattle.dictcol.specs.declared.request.Source.TheVariants.{StandardInput, File}
+use Rattle.dictcol.specs.declared.source.Source.{Source}
+use Rattle.dictcol.specs.declared.source.Source.TheVariants.{StandardInput, File}
 use Rattle.dictcol.proofs.Counted.{differs}
 use Rattle.dictcol.proofs.LinesOf.{texts_of-append}
 
@@ -68,7 +68,7 @@ good-more is_input has_input names name (File path) good is some free = of has_i
 pub texts-more : (names : List (Bor Text)) (i : ℕ) (d : Bor Text) → i < length names → texts_of (take (i + 1) names) ≡ texts_of (take i names) ++ (get_or names i d).now ∷ []
 texts-more names i d inside = ap texts_of (take_more names i d inside) ∙ texts_of-append (take i names) (get_or names i d ∷ [])
 
-texts-split : (names : List (Bor Text)) (i : ℕ) (d : Bor Text) → i < length names
+pub texts-split : (names : List (Bor Text)) (i : ℕ) (d : Bor Text) → i < length names
     → texts_of names ≡ texts_of (take i names) ++ (get_or names i d).now ∷ texts_of (drop (i + 1) names)
 texts-split names i d inside =
     ap texts_of (sym (take-append-drop i names)) ∙ texts_of-append (take i names) (drop i names)

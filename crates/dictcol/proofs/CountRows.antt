@@ -14,7 +14,7 @@ use Rattle.string_interner.specs.Text.{Text}
 use Rattle.string_column.specs.Column.{counts_of, dictionary_of}
 use Rattle.dictcol.specs.Counts.{AreRows, AreSorted, CountsContents, HasCounted, IsCountsText, count_line, counted, is_more, is_often, row_of}
 use Rattle.dictcol.specs.declared.fault.Fault.{Fault}
-use Rattle.dictcol.specs.declared.request.Rows.{Rows}
+use Rattle.dictcol.specs.declared.command.Rows.{Rows}
 use Rattle.dictcol.specs.Lines.{lines_of}
 use Rattle.dictcol.specs.Writes.{Writes}
 

@@ -1,8 +1,8 @@
 -- Laws of files, for whoever doubts the definitions.
-use Rattle.std.proofs.Common.{◌≡◌, ◌==◌, ◌⊎◌, ℕ, Bool, List, [], ◌∷◌, ◌++◌, length, Some, inl, inr, sym, ap, ap₂, subst, ◌∙◌, arith}
-use Rattle.std.specs.Prelude.{slice_get}
+use Rattle.std.proofs.Common.{◌≡◌, ◌==◌, ◌⊎◌, ◌<◌, ℕ, Bool, List, [], ◌∷◌, ◌++◌, length, Some, inl, inr, sym, ap, ap₂, subst, ◌∙◌, arith}
+use Rattle.std.specs.Prelude.{slice_get, slice_index_or}
 use Rattle.std.specs.List.{filter}
-use Rattle.std.proofs.lemmas.List.{append_assoc}
+use Rattle.std.proofs.lemmas.List.{append_assoc, length-append, map-append}
 use Rattle.std.proofs.lemmas.Option.{same_Some, slice_get-get_or, slice_get_within}
 use Rattle.string_interner.specs.Text.{Text}
 use Rattle.string_interner.specs.Extend.{fresh}
@@ -12,14 +12,14 @@ use Rattle.string_column.proofs.Lemmas.Rows.{codes-within, rows-are}
 use Rattle.dictcol.specs.Counts.{counted}
 use Rattle.dictcol.specs.Lines.{lines_of}
 use Rattle.dictcol.specs.Fault.{IsNotUtf8, IsWriteFault, OfDictionary}
-use Rattle.dictcol.specs.Plain.{plain_text, IsDictionary, IsPlain, IsPlainFault, HoldPlain}
+use Rattle.dictcol.specs.Plain.{plain_text, text_behind, IsDictionary, IsPlain, IsPlainFault, HoldPlain}
 use Rattle.dictcol.specs.File.{HoldsText, IsColumnFile, DecodesFile}
 use Rattle.dictcol.specs.declared.fault.Fault.{Fault}
 use Rattle.dictcol.specs.declared.fault.Fault.TheVariants.{Memory}
 use Rattle.dictcol.specs.Shards.{shard_of, shard_lines}
 use Rattle.dictcol.proofs.HoldsLines.{holds-once, comes-back}
 use Rattle.dictcol.proofs.ShardCounts.{counted-passed}
-use Rattle.dictcol.proofs.PlainColumns.{file-lines, plain-lines, same-numbers}
+use Rattle.dictcol.proofs.PlainColumns.{all-both, file-lines, plain-behind, rows-longer, same-numbers}
 
 -- a file is decoded to one text
 pub decodes-once : (file text other : Text) → DecodesFile file text → DecodesFile file other → text ≡ other
@@ -48,25 +48,39 @@ merged-files-alike a b c ab bc left right text other ab_is left_is bc_is right_i
     ∙ ap (λ back. ab_is.0 ++ back) (sym bc_text)
     ∙ sym (merge-decodes a bc right ab_is.0 right_is.1 other right_is ab_is.2 right_is.3 other_is)
 
--- What was written as plain columns comes back, and nothing else.
-pub plain-comes-back : (before text dictionary numbers said : Text) (is_cut : Bool) → IsPlain before text dictionary numbers is_cut → HoldPlain dictionary numbers is_cut said → said ≡ text
-plain-comes-back before text dictionary numbers said is_cut plain holds =
+-- The rows of plain columns are the earlier ones, and the lines of the text.
+both-rows : (before : Text) (earlier : List ℕ) (was_cut : Bool) (text dictionary numbers : Text) (is_cut : Bool) (plain : IsPlain before earlier was_cut text dictionary numbers is_cut)
+    → rows_of (plain.known ++ fresh plain.known plain.lines) (earlier ++ plain.numbers_are.0) ≡ rows_of plain.known earlier ++ plain.lines
+both-rows before earlier was_cut text dictionary numbers is_cut plain =
+    let entries = plain.known ++ fresh plain.known plain.lines in
+    map-append (λ code. slice_index_or entries code []) earlier plain.numbers_are.0
+    ∙ ap₂ (λ a b. a ++ b) (rows-longer plain.known (fresh plain.known plain.lines) earlier plain.earlier_are) (rows-are entries plain.numbers_are.0 plain.lines plain.numbers_are.1)
+
+-- What was written as plain columns comes back behind what stood before it, and nothing else.
+pub plain-comes-back : (before : Text) (earlier : List ℕ) (was_cut : Bool) (text dictionary numbers said : Text) (is_cut : Bool)
+    → (plain : IsPlain before earlier was_cut text dictionary numbers is_cut) → HoldPlain dictionary numbers is_cut said → said ≡ text_behind (rows_of plain.known earlier) was_cut text
+plain-comes-back before earlier was_cut text dictionary numbers said is_cut plain holds =
     let lines : holds.lines ≡ plain.known ++ fresh plain.known plain.lines =
     sym (file-lines holds.lines dictionary holds.lines_are) ∙ file-lines _ dictionary plain.dictionary_is.lines_are in
-    let codes = same-numbers holds.codes_are plain.numbers_are.0 numbers holds.numbers_are plain.numbers_are.2 in
-    let rows : rows_of holds.lines holds.codes_are ≡ plain.lines = ap₂ rows_of lines codes ∙ rows-are _ plain.numbers_are.0 plain.lines plain.numbers_are.1 in
-    holds.text_is ∙ ap₂ plain_text rows plain.is_cut_is ∙ plain-lines text plain.lines plain.is_ended plain.lines_are
+    let codes = same-numbers holds.codes_are (earlier ++ plain.numbers_are.0) numbers holds.numbers_are plain.numbers_are.2 in
+    holds.text_is ∙ ap₂ plain_text (ap₂ rows_of lines codes ∙ both-rows before earlier was_cut text dictionary numbers is_cut plain) plain.is_cut_is
+    ∙ plain-behind (rows_of plain.known earlier) was_cut text plain.lines plain.is_ended plain.lines_are
 
 -- And it does come back.
-pub plain-holds : (before text dictionary numbers : Text) (is_cut : Bool) → IsPlain before text dictionary numbers is_cut → HoldPlain dictionary numbers is_cut text
-plain-holds before text dictionary numbers is_cut plain =
-    let entries = plain.known ++ fresh plain.known plain.lines in record {
+pub plain-holds : (before : Text) (earlier : List ℕ) (was_cut : Bool) (text dictionary numbers : Text) (is_cut : Bool)
+    → (plain : IsPlain before earlier was_cut text dictionary numbers is_cut) → HoldPlain dictionary numbers is_cut (text_behind (rows_of plain.known earlier) was_cut text)
+plain-holds before earlier was_cut text dictionary numbers is_cut plain =
+    let new = fresh plain.known plain.lines in
+    let entries = plain.known ++ new in record {
       lines = entries;
       lines_are = plain.dictionary_is.lines_are;
-      codes_are = plain.numbers_are.0;
+      codes_are = earlier ++ plain.numbers_are.0;
       numbers_are = plain.numbers_are.2;
-      within = codes-within entries plain.numbers_are.0 plain.lines plain.numbers_are.1;
-      text_is = sym (ap₂ plain_text (rows-are entries plain.numbers_are.0 plain.lines plain.numbers_are.1) plain.is_cut_is ∙ plain-lines text plain.lines plain.is_ended plain.lines_are);
+      within = all-both (λ code. code < length entries) earlier plain.numbers_are.0
+          (λ i d inside. let below = plain.earlier_are i d inside in omega (arith, below, length-append plain.known new))
+          (codes-within entries plain.numbers_are.0 plain.lines plain.numbers_are.1);
+      text_is = sym (ap₂ plain_text (both-rows before earlier was_cut text dictionary numbers is_cut plain) plain.is_cut_is
+          ∙ plain-behind (rows_of plain.known earlier) was_cut text plain.lines plain.is_ended plain.lines_are);
     }
 
 codes-longer : (dictionary more : List Text) (codes : List ℕ) (rows : List Text) → AreCodes dictionary codes rows → AreCodes (dictionary ++ more) codes rows
@@ -76,9 +90,9 @@ codes-longer dictionary more (code ∷ codes) [] are = absurd are
 codes-longer dictionary more (code ∷ codes) (row ∷ rows) are = (slice_get-append dictionary more code row are.0, codes-longer dictionary more codes rows are.1)
 
 -- Codes of lines in a dictionary from before are codes of the same lines in the new one.
-pub old-codes-hold : (before text dictionary numbers : Text) (is_cut : Bool) (lines rows : List Text) (codes : List ℕ) → IsPlain before text dictionary numbers is_cut
-    → IsDictionary lines before → AreCodes lines codes rows → AreCodes (lines_of dictionary) codes rows
-old-codes-hold before text dictionary numbers is_cut lines rows codes plain is are =
+pub old-codes-hold : (before : Text) (earlier : List ℕ) (was_cut : Bool) (text dictionary numbers : Text) (is_cut : Bool) (lines rows : List Text) (codes : List ℕ)
+    → IsPlain before earlier was_cut text dictionary numbers is_cut → IsDictionary lines before → AreCodes lines codes rows → AreCodes (lines_of dictionary) codes rows
+old-codes-hold before earlier was_cut text dictionary numbers is_cut lines rows codes plain is are =
     let same : lines ≡ plain.known = sym (file-lines lines before is.lines_are) ∙ file-lines plain.known before plain.before_is.lines_are in
     subst (λ ls. AreCodes ls codes rows) (sym (file-lines _ dictionary plain.dictionary_is.lines_are))
     (codes-longer plain.known (fresh plain.known plain.lines) codes rows (subst (λ ls. AreCodes ls codes rows) same are))

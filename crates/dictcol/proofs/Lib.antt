@@ -31,6 +31,7 @@ pub mod PlainColumns
 pub mod IsRepeat
 pub mod LineBounds
 pub mod AreRows
+pub mod Sought
 pub mod Sharded
 pub mod ShardCounts
 pub mod LetterBegin

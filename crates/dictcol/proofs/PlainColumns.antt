@@ -1,17 +1,18 @@
 -- Plain columns: the dictionary that a file is, the numbers that a file is, and the text that both hold.
-use Rattle.std.proofs.Common.{◌≡◌, ◌≢◌, ℕ, zero, suc, ◌+◌, ◌-◌, ◌*◌, ◌/◌, ◌%◌, ◌^◌, ◌<◌, ◌≤◌, nat_lt, Bool, true, false, not, ◌&&◌, cond, eqb, List, [], ◌∷◌, ◌++◌, length, take, drop, get_or, replicate, codes, decimal, Option, Some, None, w32, refl, sym, ap, ap₂, subst, ◌∙◌, arith}
+use Rattle.std.proofs.Common.{◌≡◌, ◌≢◌, ℕ, zero, suc, ◌+◌, ◌-◌, ◌*◌, ◌/◌, ◌%◌, ◌^◌, ◌<◌, ◌≤◌, nat_lt, Bool, true, false, not, ◌&&◌, cond, eqb, List, [], ◌∷◌, ◌++◌, length, take, drop, get_or, replicate, codes, decimal, Option, Some, None, w32, refl, sym, ap, ap₂, subst, ◌∙◌, arith, inl, inr}
 use Rattle.std.specs.Prelude.{All, slice_get, IfSome, Result, Ok, Err, OnOk}
 use Rattle.std.specs.Int.{from_le_bytes}
 use Rattle.std.specs.Io.KnownBytes.{Appends, Keeps}
-use Rattle.std.specs.List.{flat_map, join_with_byte, onto_first, IsSplitAt}
+use Rattle.std.specs.List.{flat_map, join_with_byte, list_any, onto_first, IsSplitAt}
 use Rattle.std.specs.Option.{option_map_or}
+use Rattle.std.proofs.Math.ListN.{get_or-append}
 use Rattle.std.proofs.Math.Seq.{take-append_seam, drop-append_seam}
 use Rattle.std.proofs.lemmas.Bool.{lt-ltb}
 use Rattle.std.proofs.lemmas.Bool.Decides.{nat_tests}
 use Rattle.std.proofs.lemmas.Fmt.{length-decimal-le}
 use Rattle.std.proofs.lemmas.Grind.{flat_map-append}
 use Rattle.std.proofs.lemmas.List.Elements.{All-push}
-use Rattle.std.proofs.lemmas.List.{append_assoc, append-nil, length-append, length-drop, length-replicate, take_all, length-take, take-append-drop}
+use Rattle.std.proofs.lemmas.List.{append_assoc, append-nil, length-append, length-drop, length-replicate, take_all, length-take, take-append-drop, take_at, drop_at}
 use Rattle.std.proofs.lemmas.Slice.Zip.{AllZip-long}
 use Rattle.std.proofs.lemmas.Nat.{from_le_bytes-to_le_bytes_4, le_bytes_4}
 use Rattle.string_interner.specs.Text.{Text, IsDistinct, first}
@@ -25,10 +26,11 @@ use Rattle.string_column.proofs.Lemmas.Counts.{fresh-distinct, dictionary-distin
 use Rattle.string_column.proofs.Lemmas.Rows.{rows-are}
 use Rattle.dictcol.specs.File.{HaveEntries}
 use Rattle.dictcol.specs.Lines.{has_newline, text_of_ended, text_of_lines, lines_of, AreLines}
-use Rattle.dictcol.specs.Plain.{plain_text, IsLinesFile, IsDictionary, code_bytes, npy_start, npy_header, AreNumbers, IsNotALine, IsNpy, IsOnto, IsPlain, line_bounds, AreRows, HoldPlain}
+use Rattle.dictcol.specs.Plain.{plain_text, text_behind, ends_cut, IsLinesFile, IsDictionary, code_bytes, npy_start, npy_header, AreNumbers, IsArrayFault, IsHeaderFault, IsNotALine, IsNpy, IsOnto, IsPlain, line_bounds, AreRows, HoldPlain}
+use Rattle.dictcol.specs.declared.fault.Fault.{Fault}
 use Rattle.dictcol.specs.declared.fault.Fault.TheVariants.{NotALine}
 use Rattle.dictcol.proofs.LinesOf.{text-of-lines, lines-plain, fresh-plain}
-use Rattle.dictcol.proofs.TextLines.{ended-first, ended-lines, both-plain, one-ended, more-rest}
+use Rattle.dictcol.proofs.TextLines.{ended, ended-first, ended-lines, both-plain, one-ended, one-line, more-rest}
 
 -- ---- distinct lines
 
@@ -94,6 +96,14 @@ file-ended lines read file is_ended are unended some is = of lines refl
         let none : (l ∷ ls) ≢ [] = λ e. cc in
         let text : file ≡ text_of_lines lines true = is.text ∙ ap (λ x. text_of_ended x []) e ∙ ended-lines (l ∷ ls) [] none refl ∙ sym (ap (λ x. text_of_lines x true) e) in
         let told = are.end _ text in absurd (cc)
+
+-- a text behind the last newline is none of them
+pub open-end : (seen : List Text) (rest : Text) (lines : List Text) (file : Text) → file ≡ text_of_ended seen rest → list_any has_newline seen ≡ false → has_newline rest ≡ false → rest ≢ [] → ¬ (IsLinesFile lines file)
+open-end seen rest lines file whole plain rest_plain some is =
+    let all : lines ≡ seen ++ rest ∷ [] =
+    sym (file-lines lines file is) ∙ ap lines_of whole ∙ ended-first seen rest plain ∙ ap (λ ls. seen ++ ls) (one-line rest rest_plain some) in
+    let longer = ap length (sym whole ∙ is.text ∙ ap (λ ls. text_of_ended ls []) all ∙ one-ended seen rest) in
+    omega (arith, longer, length-append (text_of_ended seen rest) (10 ∷ []))
 
 pub is-dictionary : (lines : List Text) (file : Text) (is_ended : Bool) → AreLines file lines is_ended → (is_ended ≡ false → lines ≡ []) → length lines ≤ length (dictionary_of lines)
     → IsDictionary lines file
@@ -218,6 +228,21 @@ other-header numbers file header bytes right split made other is =
     let none : length bytes % 4 ≡ 0 = omega (arith, long) in
     other none (parts.0 ∙ ap npy_header (sym count) ∙ sym made)
 
+-- the same of a header, behind which there are so many bytes
+pub no-header : (header right : Text) (behind : ℕ) → length header ≡ 128 → right ≡ npy_header (behind / 4) → (behind % 4 ≡ 0 → header ≢ right)
+    → (bytes : Text) (numbers : List ℕ) → length bytes ≡ behind → ¬ (IsNpy numbers (header ++ bytes))
+no-header header right behind long made other bytes numbers many =
+    let all = length-append header bytes in
+    other-header numbers (header ++ bytes) header bytes right (omega (arith, all, long), sym (take_at header bytes 128 long), sym (drop_at header bytes 128 long), long, omega (arith, all, long))
+    (made ∙ ap (λ (n : ℕ). npy_header (n / 4)) (sym many)) (λ none. other (ap (λ (n : ℕ). n % 4) (sym many) ∙ none))
+
+-- the faults of a header are those of a file that begins with it
+pub array-fault : (file header bytes : Text) (fault : Fault) → IsSplitAt file 128 header bytes → IsHeaderFault header (length bytes) fault → IsArrayFault file fault
+array-fault file header bytes fault split (inl memory) = inl memory
+array-fault file header bytes fault split (inr (damage, none)) =
+    let whole = sym (take-append-drop 128 file) ∙ sym (ap₂ (λ front back. front ++ back) split.1 split.2) in
+    inr (damage, λ numbers is. none bytes numbers refl (subst (IsNpy numbers) whole is))
+
 -- bytes of numbers behind their header are a file of them
 pub npy-of : (numbers : List ℕ) (file bytes : Text) (count : ℕ) → count < 2 ^ 64 → file ≡ npy_header count ++ bytes → length bytes ≡ 4 * count → bytes ≡ flat_map code_bytes numbers
     → AreSmall numbers → IsNpy numbers file
@@ -236,11 +261,6 @@ small-at : (numbers : List ℕ) → ((i : ℕ) → get_or numbers i 0 < 2 ^ 32) 
 small-at [] small i d inside = absurd (omega (arith, inside))
 small-at (n ∷ ns) small zero d inside = small 0
 small-at (n ∷ ns) small (suc i) d inside = small-at ns (λ k. small (suc k)) i d (omega (arith, inside))
-
--- numbers behind their header
-pub npy-written : (numbers : List ℕ) (header : Text) → header ≡ npy_header (length numbers) → length numbers < 2 ^ 64 → ((i : ℕ) → get_or numbers i 0 < 2 ^ 32)
-    → IsNpy numbers (header ++ flat_map code_bytes numbers)
-npy-written numbers header is fits small = record { bytes = ap (λ text. text ++ flat_map code_bytes numbers) is; count_fits = fits; each_fits = small-at numbers small }
 
 no-items : (xs : List ℕ) → length xs ≡ 0 → xs ≡ []
 no-items [] none = refl
@@ -269,10 +289,22 @@ all-first : (P : ℕ → Type 0) (n : ℕ) (ns : List ℕ) → P n → All P ns 
 all-first P n ns one all zero d inside = one
 all-first P n ns one all (suc i) d inside = all i d (omega (arith, inside))
 
-all-both : (P : ℕ → Type 0) (xs ys : List ℕ) → All P xs → All P ys → All P (xs ++ ys)
+pub all-both : (P : ℕ → Type 0) (xs ys : List ℕ) → All P xs → All P ys → All P (xs ++ ys)
 all-both P [] ys front behind = behind
 all-both P (x ∷ xs) ys front behind =
     all-first P x (xs ++ ys) (front 0 0 (omega arith)) (all-both P xs ys (λ k e within. front (suc k) e (omega (arith, within))) behind)
+
+-- numbers behind their header, the first of them as bytes
+pub npy-written : (limit : ℕ) (front numbers : List ℕ) (header earlier : Text) → header ≡ npy_header (length numbers + length earlier / 4) → length numbers + length earlier / 4 < 2 ^ 64
+    → AreNumbers limit front earlier → ((i : ℕ) → get_or numbers i 0 < 2 ^ 32) → IsNpy (front ++ numbers) ((header ++ earlier) ++ flat_map code_bytes numbers)
+npy-written limit front numbers header earlier is fits are small =
+    let long = ap length are.bytes_are ∙ numbers-long front in
+    let count : length numbers + length earlier / 4 ≡ length (front ++ numbers) = omega (arith, long, length-append front numbers) in record {
+      bytes = append_assoc header earlier (flat_map code_bytes numbers)
+          ∙ ap₂ (λ h bs. h ++ bs) (is ∙ ap npy_header count) (ap (λ bs. bs ++ flat_map code_bytes numbers) are.bytes_are ∙ sym (flat_map-append code_bytes front numbers));
+      count_fits = omega (arith, sym count, fits);
+      each_fits = all-both (λ n. n < 2 ^ 32) front numbers are.each_fits (small-at numbers small);
+    }
 
 -- bytes, four for each number, are numbers
 numbers-of : (count : ℕ) (bytes : Text) → ((i : ℕ) → get_or bytes i 0 < 256) → length bytes ≡ 4 * count → (numbers : List ℕ) × (bytes ≡ flat_map code_bytes numbers) × AreSmall numbers
@@ -340,6 +372,51 @@ plain-lines text (line ∷ lines) false are =
     let some : nat_lt 0 (length (line ∷ lines)) ≡ true = lt-ltb 0 (length (line ∷ lines)) (omega arith) in
     ap (plain_text (line ∷ lines)) some ∙ sym (append-nil (join_with_byte 10 (line ∷ lines))) ∙ text-of-lines text (line ∷ lines) false are
 
+ended-both : (rows lines : List Text) → text_of_ended (rows ++ lines) [] ≡ text_of_ended rows (text_of_ended lines [])
+ended-both rows lines =
+    append-nil (flat_map ended (rows ++ lines)) ∙ flat_map-append ended rows lines ∙ ap (λ text. flat_map ended rows ++ text) (sym (append-nil (flat_map ended lines)))
+
+joined-both : (rows : List Text) (line : Text) (lines : List Text) → join_with_byte 10 (rows ++ line ∷ lines) ≡ text_of_ended rows (join_with_byte 10 (line ∷ lines))
+joined-both [] line lines = refl
+joined-both (row ∷ []) line lines = let text = join_with_byte 10 (line ∷ lines) in sym (append_assoc row (10 ∷ []) text) ∙ ap (λ front. front ++ text) (sym (append-nil (ended row)))
+joined-both (row ∷ next ∷ rows) line lines =
+    let text = join_with_byte 10 (line ∷ lines) in
+    ap (λ more. row ++ 10 ∷ more) (joined-both (next ∷ rows) line lines)
+    ∙ sym (append_assoc row (10 ∷ []) (text_of_ended (next ∷ rows) text)) ∙ sym (append_assoc (ended row) (flat_map ended (next ∷ rows)) text)
+
+plain-both : (rows : List Text) (line : Text) (lines : List Text) (is_cut : Bool) → plain_text (rows ++ line ∷ lines) is_cut ≡ text_of_ended rows (plain_text (line ∷ lines) is_cut)
+plain-both rows line lines true = joined-both rows line lines
+plain-both rows line lines false = ended-both rows (line ∷ lines)
+
+and-true : (b : Bool) → b ≡ (b && true)
+and-true true = refl
+and-true false = refl
+
+cut-some : (was_cut : Bool) (line : Text) (lines : List Text) (is_ended : Bool) → ends_cut was_cut (line ∷ lines) is_ended ≡ (not is_ended && nat_lt 0 (length (line ∷ lines)))
+cut-some was_cut line lines is_ended =
+    let some : nat_lt 0 (length (line ∷ lines)) ≡ true = lt-ltb 0 (length (line ∷ lines)) (omega arith) in
+    ap (λ t. cond t (not is_ended) was_cut) some ∙ and-true (not is_ended) ∙ ap (λ t. not is_ended && t) (sym some)
+
+behind-some : (rows : List Text) (was_cut : Bool) (text : Text) → text ≢ [] → text_of_ended rows text ≡ text_behind rows was_cut text
+behind-some rows was_cut [] some = absurd (some refl)
+behind-some rows was_cut (b ∷ bs) some = refl
+
+-- the text of earlier rows, and of a text's lines behind them
+pub plain-behind : (rows : List Text) (was_cut : Bool) (text : Text) (lines : List Text) (is_ended : Bool) → AreLines text lines is_ended
+    → plain_text (rows ++ lines) (ends_cut was_cut lines is_ended) ≡ text_behind rows was_cut text
+plain-behind rows was_cut text [] is_ended are =
+    ap (λ ls. plain_text ls was_cut) (append-nil rows) ∙ ap (text_behind rows was_cut) (sym (no-lines text (sym are.lines_are)))
+plain-behind rows was_cut text (line ∷ lines) is_ended are =
+    let some : text ≢ [] = λ e. let none : (line ∷ lines) ≡ [] = are.lines_are ∙ ap lines_of e in absurd (cc) in
+    ap (plain_text (rows ++ line ∷ lines)) (cut-some was_cut line lines is_ended) ∙ plain-both rows line lines (not is_ended && nat_lt 0 (length (line ∷ lines)))
+    ∙ ap (text_of_ended rows) (plain-lines text (line ∷ lines) is_ended are) ∙ behind-some rows was_cut text some
+
+-- codes of entries read the same where there are more
+pub rows-longer : (known more : List Text) (codes : List ℕ) → HaveEntries known codes → rows_of (known ++ more) codes ≡ rows_of known codes
+rows-longer known more [] within = refl
+rows-longer known more (code ∷ codes) within =
+    ap₂ (λ row rows. row ∷ rows) (get_or-append known more [] code (within 0 0 (omega arith))) (rows-longer known more codes (λ i d inside. within (suc i) d (omega (arith, inside))))
+
 -- a file is of one list of numbers
 pub same-numbers : (numbers others : List ℕ) (file : Text) → IsNpy numbers file → IsNpy others file → numbers ≡ others
 same-numbers numbers others file is too =
@@ -359,9 +436,10 @@ codes-behind dictionary (suc k) (code ∷ codes) [] are = absurd are
 codes-behind dictionary (suc k) (code ∷ codes) (row ∷ rows) are = codes-behind dictionary k codes rows are.1
 
 -- the files of rows that are the lines of a dictionary from before and those of a text
-pub onto-plain : (before text numbers : Text) (rows : List Text) (count : ℕ) (is_cut : Bool) (codes : List ℕ) → IsOnto before text rows count is_cut
-    → AreCodes (dictionary_of rows) codes rows → IsNpy (drop count codes) numbers → IsPlain before text (text_of_ended (dictionary_of rows) []) numbers is_cut
-onto-plain before text numbers rows count is_cut codes onto are npy =
+pub onto-plain : (before text numbers bytes : Text) (rows : List Text) (count : ℕ) (was_cut is_cut : Bool) (codes earlier : List ℕ) → IsOnto before was_cut text rows count is_cut
+    → AreCodes (dictionary_of rows) codes rows → AreNumbers count earlier bytes → IsNpy (earlier ++ drop count codes) numbers
+    → IsPlain before earlier was_cut text (text_of_ended (dictionary_of rows) []) numbers is_cut
+onto-plain before text numbers bytes rows count was_cut is_cut codes earlier onto are first npy =
     let known = onto.known in
     let lines = onto.lines in
     let distinct = onto.before_is.distinct in
@@ -382,6 +460,7 @@ onto-plain before text numbers rows count is_cut codes onto are npy =
         };
         distinct = fresh-distinct known lines distinct;
       };
+      earlier_are = subst (λ n. All (λ code. code < n) earlier) onto.count_is first.within;
       numbers_are = (drop count codes, rw (entries, behind) at codes-are, npy);
     }
 
@@ -422,18 +501,18 @@ some-more known more rows are =
     let count : length rows ≡ length known + length more = ap length are ∙ length-append known more in grind (arith, nat_tests)
 
 -- the lines that two inputs yield, one behind the other
-pub onto-inputs : (before input : Option Text) (known more rows : List Text) (is_ended is_cut : Bool) (count : ℕ) → IfSome before (IsDictionary known) → rows ≡ known ++ more
-    → IfSome input (λ text. AreLines text more is_ended) → count ≡ length known → is_cut ≡ (not is_ended && nat_lt count (length rows))
-    → IfSome before (λ old. IfSome input (λ text. IsOnto old text rows count is_cut))
-onto-inputs None input known more rows is_ended is_cut count is rows-are are count-is cut = tt
-onto-inputs (Some old) None known more rows is_ended is_cut count is rows-are are count-is cut = tt
-onto-inputs (Some old) (Some text) known more rows is_ended is_cut count is rows-are are count-is cut = record {
+pub onto-inputs : (before input : Option Text) (known more rows : List Text) (was_cut is_ended is_cut : Bool) (count : ℕ) → IfSome before (IsDictionary known) → rows ≡ known ++ more
+    → IfSome input (λ text. AreLines text more is_ended) → count ≡ length known → is_cut ≡ cond (nat_lt count (length rows)) (not is_ended) was_cut
+    → IfSome before (λ old. IfSome input (λ text. IsOnto old was_cut text rows count is_cut))
+onto-inputs None input known more rows was_cut is_ended is_cut count is rows-are are count-is cut = tt
+onto-inputs (Some old) None known more rows was_cut is_ended is_cut count is rows-are are count-is cut = tt
+onto-inputs (Some old) (Some text) known more rows was_cut is_ended is_cut count is rows-are are count-is cut = record {
   known = known;
   before_is = is;
   lines = more;
   is_ended = is_ended;
   lines_are = are;
-  is_cut_is = cut ∙ ap (λ n. not is_ended && nat_lt n (length rows)) count-is ∙ ap (λ t. not is_ended && t) (some-more known more rows rows-are);
+  is_cut_is = cut ∙ ap (λ n. cond (nat_lt n (length rows)) (not is_ended) was_cut) count-is ∙ ap (λ t. cond t (not is_ended) was_cut) (some-more known more rows rows-are);
   rows_are = rows-are;
   count_is = count-is;
 }

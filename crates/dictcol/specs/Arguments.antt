@@ -1,28 +1,26 @@
 -- What the words of a command ask for: nothing that was chosen is lost.
--- Cited by `arguments`.
+-- Cited by `given`.
 use Rattle.std.specs.Prelude.{◌≡◌, ⊤, true, false, [], Option, Some, None}
 use Rattle.std.specs.Borrow.{Bor}
 use Rattle.std.specs.Option.{option_flatten, unwrap_or}
 use Rattle.string_interner.specs.Text.{Text}
 use Rattle.dictcol.specs.Names.{Names}
-use Rattle.dictcol.specs.declared.arguments.Command.{Command}
-use Rattle.dictcol.specs.declared.arguments.Command.TheVariants.{Encode, Decode, Count, Distinct, Merge, Shard}
-use Rattle.dictcol.specs.declared.arguments.Given.{Given}
+use Rattle.dictcol.specs.declared.arguments.given.Given.{Given}
+use Rattle.dictcol.specs.declared.arguments.options.CommandName.{CommandName}
+use Rattle.dictcol.specs.declared.arguments.options.CommandName.TheVariants as named
+use Rattle.dictcol.specs.declared.command.BackendKind.TheVariants.{String as StringKind}
+use Rattle.dictcol.specs.declared.command.Command.{Command}
+use Rattle.dictcol.specs.declared.command.Command.TheVariants.{Encode, WriteColumns, Decode, Count, CountEncoded, Distinct, Merge, Shard}
+use Rattle.dictcol.specs.declared.command.Files.{Files}
+use Rattle.dictcol.specs.declared.command.Files.TheVariants.{Named, Listed}
+use Rattle.dictcol.specs.declared.command.Invocation.{Invocation}
+use Rattle.dictcol.specs.declared.command.Invocation.TheVariants.{Get, Run}
+use Rattle.dictcol.specs.declared.command.Order.{Order}
+use Rattle.dictcol.specs.declared.command.Order.TheVariants.{Appearance, Frequency, Top}
+use Rattle.dictcol.specs.declared.command.Rows.{Rows}
+use Rattle.dictcol.specs.declared.get.Get.{Get as Got}
 use Rattle.dictcol.specs.declared.input.field.Field.{Field}
-use Rattle.dictcol.specs.declared.request.Action.{Action}
-use Rattle.dictcol.specs.declared.request.Action.TheVariants.{Do, WriteShards}
-use Rattle.dictcol.specs.declared.request.Answer.TheVariants.{Encoded, Decoded, Counted}
-use Rattle.dictcol.specs.declared.request.Choice.TheVariants.{String as StringChoice}
-use Rattle.dictcol.specs.declared.request.Files.{Files}
-use Rattle.dictcol.specs.declared.request.Files.TheVariants.{Named, Listed}
-use Rattle.dictcol.specs.declared.request.Order.{Order}
-use Rattle.dictcol.specs.declared.request.Order.TheVariants.{Appearance, Frequency, Top}
-use Rattle.dictcol.specs.declared.request.Reading.{Reading}
-use Rattle.dictcol.specs.declared.request.Request.{Request}
-use Rattle.dictcol.specs.declared.request.Request.TheVariants.{Act, Help, Version}
-use Rattle.dictcol.specs.declared.request.Rows.{Rows}
-use Rattle.dictcol.specs.declared.request.Task.{Task}
-use Rattle.dictcol.specs.declared.request.Task.TheVariants.{Answer, WriteColumns, Distinct as DistinctTask, Merge as MergeTask, CountEncoded}
+use Rattle.dictcol.specs.declared.reader.Reading.{Reading}
 
 -- the field that the words say, behind tabs unless they say another byte
 abbrev pub IsField : Given → Option Field → Type 0
@@ -46,31 +44,33 @@ pub record AreRowsOf (given : Given) (rows : Rows) : Type 0 where
   pub order : IsOrderOf given rows.order
   pub at_least : rows.at_least ≡ unwrap_or given.at_least 1
 
--- the task of a command, with all that the words say of it
-abbrev pub IsTask : Given → Command → Task → Type 0
-IsTask given Encode (WriteColumns columns) = (given.folder ≡ Some columns.folder) × (columns.onto ≡ given.onto)
-IsTask given Encode (Answer Encoded) = given.folder ≡ None
-IsTask given Decode (Answer Decoded) = ⊤
-IsTask given Count (Answer (Counted rows)) = (given.is_encoded ≡ false) × AreRowsOf given rows
-IsTask given Count (CountEncoded rows) = (given.is_encoded ≡ true) × AreRowsOf given rows
-IsTask given Distinct DistinctTask = ⊤
-IsTask given Merge MergeTask = ⊤
-IsTask given command task = ⊥
-
--- what a command does, with all that the words say of it
-abbrev pub IsAction : Given → Command → Action → Type 0
-IsAction given command (Do task choice reading) =
-    IsTask given command task × (choice ≡ unwrap_or given.choice StringChoice) × IsReading given reading
-IsAction given Shard (WriteShards shards reading) = (given.shards ≡ Some shards) × IsReading given reading
-IsAction given command (WriteShards shards reading) = ⊥
+-- the command of this name, with all that the words say of it
+abbrev pub IsCommand : Given → CommandName → Command → Type 0
+IsCommand given named.Encode (WriteColumns columns) = (given.folder ≡ Some columns.folder) × (columns.onto ≡ given.onto) × (columns.appends ≡ given.appends)
+IsCommand given named.Encode Encode = given.folder ≡ None
+IsCommand given named.Decode Decode = ⊤
+IsCommand given named.Count (Count rows) = (given.is_encoded ≡ false) × AreRowsOf given rows
+IsCommand given named.Count (CountEncoded rows) = (given.is_encoded ≡ true) × AreRowsOf given rows
+IsCommand given named.Distinct Distinct = ⊤
+IsCommand given named.Merge Merge = ⊤
+IsCommand given named.Shard (Shard shards) = given.shards ≡ Some shards
+IsCommand given other command = ⊥
 
 -- the files are those that the words name, or the list is
 abbrev pub AreFiles : Given → Files → Type 0
 AreFiles given (Named files) = (given.list ≡ None) × (files ≡ given.files)
 AreFiles given (Listed source) = (path : Bor Text) × (given.list ≡ Some path) × Names path.now source × (given.files.items ≡ [])
 
+-- of this folder the numbers of these texts are written, as the words say
+pub record IsGet (given : Given) (got : Got) : Type 0 where
+  pub folder : given.columns ≡ Some got.folder
+  pub texts : got.texts ≡ given.texts
+  pub is_checked : got.is_checked ≡ given.is_checked
+
 -- what all the words ask for
-abbrev pub IsRequest : Given → Request → Type 0
-IsRequest given (Act action files) =
-    (command : Command) × (given.command ≡ Some command) × IsAction given command action × AreFiles given files
-IsRequest given other = ⊥
+abbrev pub IsInvocation : Given → Invocation → Type 0
+IsInvocation given (Run command backend reading files) =
+    ((name : CommandName) × (given.command ≡ Some name) × IsCommand given name command)
+    × (backend ≡ unwrap_or given.backend StringKind) × IsReading given reading × AreFiles given files
+IsInvocation given (Get got) = (given.command ≡ Some named.Get) × IsGet given got
+IsInvocation given other = ⊥

@@ -1,5 +1,5 @@
 -- How input begins that is compressed, and what reads it.
--- Cited by `compression` and `inputs`.
+-- Cited by `compression`, `inputs` and `command`.
 use Rattle.std.specs.Prelude.{Bool, ◌==◌, ◌&&◌, [], ◌∷◌, codes, drop, Option, Some, None, if◌then◌else◌}
 use Rattle.std.specs.List.{starts_with}
 use Rattle.string_interner.specs.Text.{Text}

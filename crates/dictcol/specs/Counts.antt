@@ -8,9 +8,9 @@ use Rattle.std.specs.NonZero.{non_zero_usize_get}
 use Rattle.std.specs.Str.{bytes_eq}
 use Rattle.string_interner.specs.Text.{Text}
 use Rattle.string_column.specs.Column.{AreCodes, counts_of, dictionary_of}
-use Rattle.dictcol.specs.declared.request.Order.{Order}
-use Rattle.dictcol.specs.declared.request.Order.TheVariants.{Appearance, Frequency, Top}
-use Rattle.dictcol.specs.declared.request.Rows.{Rows}
+use Rattle.dictcol.specs.declared.command.Order.{Order}
+use Rattle.dictcol.specs.declared.command.Order.TheVariants.{Appearance, Frequency, Top}
+use Rattle.dictcol.specs.declared.command.Rows.{Rows}
 
 -- what contracts see of counts
 pub record CountsContents : Type 0 where

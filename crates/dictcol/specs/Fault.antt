@@ -1,6 +1,6 @@
 -- The exit status of each fault, and which faults a step returns.
 -- Cited by `Fault`, and by `blocks`, `whole`, `file`, `format`, `stream`, `lines`, `decode`, `encode`, `count`, `distinct`,
--- `line_blocks`, `merge`, `plain` and `shards`.
+-- `line_blocks`, `merge`, `output`, `plain` and `shards`.
 use Rattle.std.specs.Prelude.{ℕ, ⊤, ◌≡◌, ◌+◌, ◌-◌, ◌^◌, ◌⊎◌, Option, IfSome, Result, IsOk, IsErrAnd, take, min, count_by}
 use Rattle.std.specs.Str.{IsValidUpTo}
 use Rattle.std.specs.declared.io.Error.{Error}
@@ -103,9 +103,13 @@ IsBadLine before text line = (n : ℕ) × IsValidUpTo text n × (line ≡ min (b
 abbrev pub IsNotUtf8 : ℕ → Option Text → Fault → Type 0
 IsNotUtf8 before known fault = (line : ℕ) × (fault ≡ NotUtf8 line) × IfSome known (λ text. IsBadLine before text line)
 
--- it writes last: if it fails before that, the output is unchanged
+-- it writes last: unless all went well, or this is true of the error, which says that writing failed, the output is unchanged
+abbrev pub WritesLastUnless : {T E W : Type 0} → (E → Type 0) → Result T E → W → W → Type 0
+WritesLastUnless IsOfWriting result old new = IsOk result ⊎ (IsErrAnd result IsOfWriting ⊎ (new ≡ old))
+
+-- and it may fail with any fault
 abbrev pub WritesLast : {T W : Type 0} → Result T Fault → W → W → Type 0
-WritesLast result old new = IsOk result ⊎ (IsErrAnd result IsWriteFault ⊎ (new ≡ old))
+WritesLast result old new = WritesLastUnless IsWriteFault result old new
 
 -- the file is damaged
 abbrev pub IsDamage : Fault → Type 0

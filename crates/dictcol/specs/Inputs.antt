@@ -1,14 +1,18 @@
 -- Which of several files a line is of.
--- Cited by `inputs` and `job`.
-use Rattle.std.specs.Prelude.{◌≡◌, ℕ, ◌+◌, ◌-◌, ◌^◌, ◌<◌, ◌≤◌, Bool, not, List, [], ◌∷◌, ◌++◌, All, length, min, count_by, nat_lt, slice_get, slice_index_or, if◌then◌else◌, ◌⊎◌, Option, Some, None}
-use Rattle.std.specs.Option.{option_map_or}
+-- Cited by `inputs`, `reader` and `command`.
+use Rattle.std.specs.Prelude.{◌≡◌, ℕ, ◌+◌, ◌-◌, ◌^◌, ◌<◌, ◌≤◌, Bool, not, List, [], ◌∷◌, ◌++◌, All, length, min, count_by, nat_lt, slice_get, slice_index_or, if◌then◌else◌, ◌⊎◌, Option, Some, None, codes}
+use Rattle.std.specs.Option.{option_and_then, option_map_or}
 use Rattle.string_interner.specs.Text.{Text}
+use Rattle.dictcol.specs.Compression.{explained}
 use Rattle.dictcol.specs.Lines.{is_newline}
-use Rattle.dictcol.specs.declared.request.Source.{Source}
-use Rattle.dictcol.specs.declared.request.Source.TheVariants.{StandardInput}
+use Rattle.dictcol.specs.declared.source.Source.{Source}
+use Rattle.dictcol.specs.declared.source.Source.TheVariants.{StandardInput}
 use Rattle.dictcol.specs.declared.fault.Fault.{Fault}
 use Rattle.dictcol.specs.declared.fault.Fault.TheVariants.{NotUtf8}
+use Rattle.dictcol.specs.declared.input.compression.Compression.{Compression}
 use Rattle.dictcol.specs.declared.input.inputs.Begin.{Begin}
+use Rattle.dictcol.specs.declared.input.inputs.Inputs.{Inputs}
+use Rattle.dictcol.specs.declared.located.Located.{Located}
 
 -- the file that is read, or the only one
 abbrev pub source_at : List Source → ℕ → Source
@@ -19,6 +23,11 @@ source_at sources at = slice_index_or sources at StandardInput
 abbrev pub named_at : List Source → Option ℕ → Source
 named_at files (Some at) = slice_index_or files at StandardInput
 named_at files None = StandardInput
+
+-- what compressed the input with this index, as it looks
+abbrev pub compression_at : List Inputs → Option ℕ → Option Compression
+compression_at inputs (Some at) = option_and_then (λ input. input.compression) (slice_get inputs at)
+compression_at inputs None = None
 
 -- if there are several files, one more begins
 abbrev pub noted : List Source → List Begin → Begin → List Begin
@@ -45,10 +54,17 @@ pub record IsLineOf (begins : List Begin) (line : ℕ) (begin : Begin) : Type 0 
   pub begun : begin.lines < line
   pub last : All (λ other. line ≤ other.lines) later
 
--- A fault is told of this file in this way: a line is counted from the begin of the file that it begins in, and any other fault is one
--- of the file that is read.
-abbrev pub IsLocated : List Begin → Source → Fault → Source × Fault → Type 0
-IsLocated begins read (NotUtf8 line) (source, fault) =
-    ((begin : Begin) × IsLineOf begins line begin × (source ≡ begin.source) × (fault ≡ NotUtf8 (line - begin.newlines)))
-    ⊎ (All (λ begin. line ≤ begin.lines) begins × (source ≡ read) × (fault ≡ NotUtf8 line))
-IsLocated begins read other (source, fault) = (source ≡ read) × (fault ≡ other)
+-- A fault is told of this file in this way: a line is counted from the begin of the file that it begins in, and told as one of compressed
+-- input if what is read looks like that; any other fault is one of the file that is read.
+abbrev pub IsLocated : Inputs → Fault → Located → Type 0
+IsLocated inputs (NotUtf8 line) located =
+    ((begin : Begin) × IsLineOf inputs.begins.items line begin × (located.source ≡ begin.source)
+    × (located.fault ≡ explained inputs.compression (NotUtf8 (line - begin.newlines))))
+    ⊎ (All (λ begin. line ≤ begin.lines) inputs.begins.items × (located.source ≡ source_at inputs.sources.now inputs.at)
+    × (located.fault ≡ explained inputs.compression (NotUtf8 line)))
+IsLocated inputs other located = (located.source ≡ source_at inputs.sources.now inputs.at) × (located.fault ≡ other)
+
+-- what may be done about a fault of reading lines
+abbrev pub advice_on_lines : Fault → Text
+advice_on_lines (NotUtf8 line) = codes " (see --invalid)"
+advice_on_lines other = []

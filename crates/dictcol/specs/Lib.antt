@@ -1,4 +1,3 @@
-pub mod Answer
 pub mod Arguments
 pub mod Blocks
 pub mod Compression
@@ -7,6 +6,7 @@ pub mod Crowded
 pub mod Distinct
 pub mod Fault
 pub mod File
+pub mod Get
 pub mod Hasher
 pub mod Inputs
 pub mod Lines

@@ -1,11 +1,11 @@
 -- The names in a list, and what is wrong with one.
--- Cited by `names` and `request`.
+-- Cited by `names` and `source`.
 use Rattle.std.specs.Prelude.{◌≡◌, ◌≢◌, ℕ, ◌==◌, ◌+◌, ◌-◌, ◌^◌, ◌≤◌, Bool, true, List, [], ◌∷◌, ◌++◌, All, length, take, min, count_by, ⊤, if◌then◌else◌}
 use Rattle.std.specs.List.{slice_split}
 use Rattle.std.specs.Str.{bytes_eq, IsValidUpTo}
 use Rattle.string_interner.specs.Text.{Text}
-use Rattle.dictcol.specs.declared.request.Source.{Source}
-use Rattle.dictcol.specs.declared.request.Source.TheVariants.{StandardInput, File}
+use Rattle.dictcol.specs.declared.source.Source.{Source}
+use Rattle.dictcol.specs.declared.source.Source.TheVariants.{StandardInput, File}
 use Rattle.dictcol.specs.declared.names.NameFault.{NameFault}
 use Rattle.dictcol.specs.declared.names.NameFault.TheVariants.{Empty, NotUtf8, ListIsInput, InputTwice, Memory}
 

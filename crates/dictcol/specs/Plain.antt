@@ -19,6 +19,11 @@ use Rattle.dictcol.specs.Lines.{has_newline, lines_of, text_of_ended, AreLines}
 abbrev pub plain_text : List Text → Bool → Text
 plain_text lines is_cut = if is_cut then join_with_byte 10 lines else text_of_ended lines []
 
+-- the text of earlier lines, and another behind it: unless that is empty, it begins a line
+abbrev pub text_behind : List Text → Bool → Text → Text
+text_behind lines was_cut [] = plain_text lines was_cut
+text_behind lines was_cut text = text_of_ended lines text
+
 -- the file has these lines, a newline behind each
 pub record IsLinesFile (lines : List Text) (file : Text) : Type 0 where
   pub text : file ≡ text_of_ended lines []
@@ -71,6 +76,11 @@ pub record AreNumbers (limit : ℕ) (numbers : List ℕ) (bytes : Text) : Type 0
   pub each_fits : All (λ number. number < 2 ^ 32) numbers
   pub within : All (λ number. number < limit) numbers
 
+-- the faults of a header that so many bytes are behind: no memory is left, or with no such bytes it is an array
+abbrev pub IsHeaderFault : Text → ℕ → Fault → Type 0
+IsHeaderFault header behind fault = (fault ≡ Memory) ⊎ (IsArrayDamage fault
+    × ((bytes : Text) (numbers : List ℕ) → length bytes ≡ behind → ¬ (IsNpy numbers (header ++ bytes))))
+
 -- the faults of reading a file as an array: no memory is left, or it is none
 abbrev pub IsArrayFault : Text → Fault → Type 0
 IsArrayFault file fault = (fault ≡ Memory) ⊎ (IsArrayDamage fault × ((numbers : List ℕ) → ¬ (IsNpy numbers file)))
@@ -83,40 +93,46 @@ IsNotALine limit numbers fault = (index : ℕ) × (fault ≡ NotALine index) × 
 abbrev pub IsNumbersFault : ℕ → Text → Fault → Type 0
 IsNumbersFault limit file fault = IsArrayFault file fault ⊎ ((numbers : List ℕ) × IsNpy numbers file × IsNotALine limit numbers fault)
 
--- the file is `codes.npy` of the numbers of these rows in the dictionary
-abbrev pub IsCodesFile : List Text → List Text → Text → Type 0
-IsCodesFile dictionary rows file = (numbers : List ℕ) × AreCodes dictionary numbers rows × IsNpy numbers file
+-- the file is `codes.npy` of earlier numbers, and behind them of those of these rows in the dictionary
+abbrev pub IsCodesFile : List Text → List ℕ → List Text → Text → Type 0
+IsCodesFile dictionary earlier rows file = (numbers : List ℕ) × AreCodes dictionary numbers rows × IsNpy (earlier ++ numbers) file
 
--- The files are the plain columns of a text, onto a dictionary from before: its lines stay first, and what is new comes behind.
-pub record IsPlain (before text dictionary numbers : Text) (is_cut : Bool) : Type 0 where
+-- whether the last row has no newline: the last line of a text, or if it has none the last row before them
+abbrev pub ends_cut : Bool → List Text → Bool → Bool
+ends_cut was_cut lines is_ended = if nat_lt 0 (length lines) then not is_ended else was_cut
+
+-- The files are the plain columns of a text, onto a dictionary from before: its lines stay first, and what is new comes behind. So do
+-- the numbers of earlier rows, of which the last was cut or not.
+pub record IsPlain (before : Text) (earlier : List ℕ) (was_cut : Bool) (text dictionary numbers : Text) (is_cut : Bool) : Type 0 where
   pub known : List Text
   pub before_is : IsDictionary known before
   pub lines : List Text
   pub is_ended : Bool
   pub lines_are : AreLines text lines is_ended
-  pub is_cut_is : is_cut ≡ (not is_ended && nat_lt 0 (length lines))
+  pub is_cut_is : is_cut ≡ ends_cut was_cut lines is_ended
   pub dictionary_is : IsDictionary (known ++ fresh known lines) dictionary
-  pub numbers_are : IsCodesFile (known ++ fresh known lines) lines numbers
+  pub earlier_are : HaveEntries known earlier
+  pub numbers_are : IsCodesFile (known ++ fresh known lines) earlier lines numbers
 
 -- These rows are the lines of a dictionary from before, as many as `count`, and no text is behind them.
 abbrev pub IsBegun : Text → List Text → ℕ → Type 0
 IsBegun before rows count = IsDictionary rows before × (count ≡ length rows)
 
 -- These rows are the lines of a dictionary from before, as many as `count`, and those of a text behind them.
-pub record IsOnto (before text : Text) (rows : List Text) (count : ℕ) (is_cut : Bool) : Type 0 where
+pub record IsOnto (before : Text) (was_cut : Bool) (text : Text) (rows : List Text) (count : ℕ) (is_cut : Bool) : Type 0 where
   pub known : List Text
   pub before_is : IsDictionary known before
   pub lines : List Text
   pub is_ended : Bool
   pub lines_are : AreLines text lines is_ended
-  pub is_cut_is : is_cut ≡ (not is_ended && nat_lt 0 (length lines))
+  pub is_cut_is : is_cut ≡ ends_cut was_cut lines is_ended
   pub rows_are : rows ≡ known ++ lines
   pub count_is : count ≡ length known
 
--- the known bytes of two outputs grow by the plain columns of the text
-abbrev pub WritesPlain : Text → Text → Bool → Option (List ℕ) → Option (List ℕ) → Option (List ℕ) → Option (List ℕ) → Type 0
-WritesPlain before text is_cut old new old_numbers new_numbers =
-    (dictionary : Text) × (numbers : Text) × IsPlain before text dictionary numbers is_cut × Appends old new dictionary × Appends old_numbers new_numbers numbers
+-- the known bytes of two outputs grow by the plain columns of the text, behind earlier rows
+abbrev pub WritesPlain : Text → List ℕ → Bool → Text → Bool → Option (List ℕ) → Option (List ℕ) → Option (List ℕ) → Option (List ℕ) → Type 0
+WritesPlain before earlier was_cut text is_cut old new old_numbers new_numbers = (dictionary : Text) × (numbers : Text)
+    × IsPlain before earlier was_cut text dictionary numbers is_cut × Appends old new dictionary × Appends old_numbers new_numbers numbers
 
 -- where each line of a file begins, if the first begins at `start`, and where the last one ends
 abbrev pub line_bounds : ℕ → List Text → List ℕ

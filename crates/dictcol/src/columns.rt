@@ -1,64 +1,84 @@
 //! Writing plain columns of the lines of some files.
 
+use crate::command::Columns;
 use crate::fault::Fault;
 use crate::hasher::LineHasher;
-use crate::job::Job;
-use crate::plain::folder::Place;
-use crate::plain::{Plain, folder};
-use crate::request::{Columns, Onto, Source};
-use std::io;
+use crate::located::Located;
+use crate::plain::folder;
+use crate::plain::folder::{Before, Place};
+use crate::reader::LineReader;
+use crate::source::Source;
+use std::io::ErrorKind;
 use string_interner::backend::Backend;
 
-/// Reads the lines of the dictionary from before, if there is one.
-fn read_before<B: Backend + Drop>(
+/// What may be done about a dictionary whose numbers are not there.
+const NUMBERS_ADVICE: &str = " (see --onto-dictionary)";
+
+/// Returns the fault of reading a folder, with what may be done about it.
+fn locate<'a>(folder: &'a str, fault: Fault) -> Located<'a> {
+    let advice = match &fault {
+        Fault::NumbersFile(error) if error.kind() == ErrorKind::NotFound => NUMBERS_ADVICE,
+        _ => "",
+    };
+    Located {
+        source: Source::File(folder),
+        fault,
+        advice,
+    }
+}
+
+/// Reads what stands before the rows of the text.
+fn read_before<'a, B: Backend + Drop>(
     rt: &HostRuntime,
     hasher: LineHasher,
-    onto: Option<Onto<'_>>,
-    place: &Place<'_>,
-) -> Result<Plain<B>, Fault> {
-    match onto {
-        Some(onto) => folder::read_dictionary(rt, hasher, onto, place),
-        None => Plain::<B>::begin(rt.alloc(), hasher, &mut io::empty()),
-    }
-}
-
-/// Writes the lines of a job into a folder that was taken. Returns how it ended, and where.
-fn write_into<'a, B: Backend + Drop>(
-    job: &mut Job<'a, LineHasher>,
     columns: Columns<'a>,
     place: &Place<'_>,
-) -> (Source<'a>, Result<(), Fault>) {
-    let (rt, hasher) = (job.rt, job.hasher);
-    let before = read_before::<B>(rt, hasher, columns.onto, place);
-    let mut plain = match (before, columns.onto) {
-        (Ok(plain), _) => plain,
-        (Err(fault), Some(onto)) => return (Source::File(onto.folder), Err(fault)),
-        (Err(fault), None) => return (Source::StandardInput, Err(fault)),
-    };
-    match plain.read(rt.alloc(), hasher, &mut job.input) {
-        Ok(()) => {
-            job.tell_skipped();
-            (Source::File(columns.folder), place.write(rt, &plain))
+) -> Result<Before<B>, Located<'a>> {
+    match columns.onto {
+        Some(onto) => {
+            let before = folder::read_dictionary(rt, hasher, onto, place);
+            before.map_err(|fault| locate(onto.folder, fault))
         }
-        Err(fault) => job.locate(fault),
+        None if columns.appends => {
+            let before = folder::read_rows(rt, hasher, place);
+            before.map_err(|fault| locate(columns.folder, fault))
+        }
+        None => Ok(Before::none(rt.alloc(), hasher)?),
     }
 }
 
-/// Writes the lines of a job, which the backend `B` stores meanwhile, into a folder, which is taken before anything is read: what is
-/// read of it is still there when it gets new files. Returns how it ended, and where.
-pub fn write<'a, B: Backend + Drop>(
-    job: &mut Job<'a, LineHasher>,
+/// Writes the lines of a reader into a folder that was taken.
+fn write_into<'a, B: Backend + Drop>(
+    lines: &mut LineReader<'a>,
+    hasher: LineHasher,
     columns: Columns<'a>,
-) -> (Source<'a>, Result<(), Fault>) {
-    let place = match Place::take(job.rt, columns.folder) {
-        Ok(place) => place,
-        Err(fault) => return (Source::File(columns.folder), Err(fault)),
-    };
-    let ended = write_into::<B>(job, columns, &place);
-    place.leave(job.rt, ended.1.is_ok());
-    if ended.1.is_ok() {
-        job.report_end();
-        job.warn_of_looks();
-    }
-    ended
+    place: &Place<'_>,
+) -> Result<(), Located<'a>> {
+    let rt = lines.rt;
+    let mut before = read_before::<B>(rt, hasher, columns, place)?;
+    let outcome = before.plain.read(rt.alloc(), hasher, &mut lines.input);
+    outcome.map_err(|fault| lines.locate(fault))?;
+    lines.tell_skipped();
+    place
+        .write(rt, &before)
+        .map_err(|fault| Located::new(Source::File(columns.folder), fault))
+}
+
+/// Writes the lines of a reader, which the backend `B` stores meanwhile, into a folder, which is taken before anything is read: what
+/// is read of it is still there when it gets new files.
+pub fn write<'a, B: Backend + Drop>(
+    lines: &mut LineReader<'a>,
+    hasher: LineHasher,
+    columns: Columns<'a>,
+) -> Result<(), Located<'a>> {
+    let place = Place::take(lines.rt, columns.folder, columns.appends).map_err(|fault| Located::new(
+        Source::File(columns.folder),
+        fault,
+    ))?;
+    let outcome = write_into::<B>(lines, hasher, columns, &place);
+    place.leave(lines.rt, outcome.is_ok());
+    outcome?;
+    lines.inputs().report_end();
+    lines.warn_of_looks();
+    Ok(())
 }

@@ -14,13 +14,13 @@ ghost use Rattle.dictcol.specs.TooMany.{HasRefused, LacksCount};
 ghost use Rattle.dictcol.specs.Writes.{Writes};
 ghost use Rattle.dictcol.specs.declared.fault.Fault.TheVariants.{Memory};
 
+use crate::command::{Order, Rows};
 use crate::fault::Fault;
 use crate::hasher::LineHasher;
 use crate::input::blocks;
 use crate::input::blocks::{Taker, TakesLines};
 use crate::input::line_blocks::{TakesBlocks, take_blocks};
-use crate::json_form::file::write;
-use crate::request::{Order, Rows};
+use crate::output::write;
 use itoa::Buffer;
 use std::alloc::{AllocError, Global};
 use std::io::{Read, Write};
@@ -90,6 +90,8 @@ impl<B: Backend> Taker for Counts<B> {
     ghost has_taken = { HasCounted };
 
     ghost refuses = { LacksCount B.numbering };
+
+    ghost kept = { λ _. tt };
 }
 
 impl<B: Backend> TakesBlocks for Counts<B> {

@@ -18,8 +18,8 @@ use crate::input::block::Block;
 use crate::input::blocks;
 use crate::input::blocks::{Taker, TakesLines};
 use crate::input::line_blocks::{TakesBlocks, take_blocks};
-use crate::json_form::file::write;
 use crate::lines::push_line;
+use crate::output::write;
 use std::alloc::Global;
 use std::io;
 use std::io::{ErrorKind, Read, Write};
@@ -103,6 +103,7 @@ impl<B: Backend> DistinctLines<B> {
 }
 
 impl<B: Backend> Taker for DistinctLines<B> {
+    ghost use Rattle.std.specs.Prelude.{ℕ};
     ghost use Rattle.dictcol.specs.Distinct.{HasMet};
     ghost use Rattle.dictcol.specs.TooMany.{LacksLine};
 
@@ -110,7 +111,9 @@ impl<B: Backend> Taker for DistinctLines<B> {
 
     ghost refuses = { LacksLine B.numbering };
 
-    ghost written = { λ known. known.written };
+    ghost Kept = { ℕ };
+
+    ghost kept = { λ known. known.written };
 }
 
 impl<B: Backend> TakesBlocks for DistinctLines<B> {

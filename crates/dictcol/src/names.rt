@@ -7,7 +7,7 @@ ghost use Rattle.std.specs.List.{AllZip, slice_split};
 ghost use Rattle.dictcol.specs.Names.{dash, is_dash, is_zero, names_of, AreGood, IsListFault, IsNamesFault, IsWrong, Names};
 
 use crate::input::blocks::count_byte;
-use crate::request::{INPUT_TWICE, NAME_ADVICE, Source};
+use crate::source::{INPUT_TWICE, NAME_ADVICE, Source};
 use std::alloc::{AllocError, Global};
 use thiserror::Error;
 

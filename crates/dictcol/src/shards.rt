@@ -198,6 +198,8 @@ impl<H: TextHasher, W: Write> Taker for Shards<H, W> {
     ghost has_taken = { HasSharded H.code W.contents };
 
     ghost refuses = { IsPastCount };
+
+    ghost kept = { λ _. tt };
 }
 
 impl<H: TextHasher, W: Write> TakesLines for Shards<H, W> {

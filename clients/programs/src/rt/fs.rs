@@ -8,7 +8,7 @@ use core::ffi::{c_char, c_int, c_long, CStr};
 use std::fs;
 use std::io::{Read as _, Write as _};
 use std::os::fd::{AsRawFd, FromRawFd, IntoRawFd, RawFd};
-use std::os::unix::fs::MetadataExt as _;
+use std::os::unix::fs::{FileExt as _, MetadataExt as _};
 
 unsafe extern "C" {
     fn open(path: *const c_char, flags: c_int, ...) -> c_int;
@@ -347,6 +347,35 @@ impl MetadataExt for Metadata {
 
     fn gid(&self) -> u32 {
         self.0.gid()
+    }
+}
+
+/// Reads that leave the place of the file where it is.
+pub trait FileExt {
+    /// Reads once from this offset on, and returns how many bytes came: none at the end.
+    fn read_at(&self, bytes: &mut [u8], offset: u64) -> Result<usize>;
+
+    /// Reads until the bytes are filled. Fails if the file ends before.
+    fn read_exact_at(&self, bytes: &mut [u8], offset: u64) -> Result<()> {
+        let mut at = 0;
+        while at < bytes.len() {
+            match self.read_at(&mut bytes[at..], offset.wrapping_add(at as u64)) {
+                Ok(0) => {
+                    let text = "failed to fill whole buffer";
+                    return Err(Error::Told(ErrorKind::UnexpectedEof, text));
+                }
+                Ok(count) => at += count,
+                Err(error) if error.kind() == ErrorKind::Interrupted => {}
+                Err(error) => return Err(error),
+            }
+        }
+        Ok(())
+    }
+}
+
+impl FileExt for File {
+    fn read_at(&self, bytes: &mut [u8], offset: u64) -> Result<usize> {
+        Ok(self.0.read_at(bytes, offset)?)
     }
 }
 

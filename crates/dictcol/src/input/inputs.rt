@@ -1,6 +1,6 @@
 //! The input: files that are read one after another, as `cat` writes them.
 
-ghost use Rattle.std.specs.Prelude.{◌≡◌, ◌≤◌, length, true, None, IfOk, OnOk, if◌then◌else◌};
+ghost use Rattle.std.specs.Prelude.{◌≡◌, ◌≤◌, [], length, true, None, IfOk, OnOk, if◌then◌else◌};
 ghost use Rattle.dictcol.specs.Compression.{compression_of, explained};
 ghost use Rattle.dictcol.specs.Inputs.{goes_on, lines_begun, newlines_with, noted, source_at, IsLocated};
 
@@ -8,7 +8,8 @@ use crate::fault::Fault;
 use crate::input::blocks::count_byte;
 use crate::input::compression::Compression;
 use crate::input::zero::exchange_ends;
-use crate::request::Source;
+use crate::located::Located;
+use crate::source::Source;
 use std::fs::File;
 use std::io;
 use std::io::{ErrorKind, IsTerminal, Read};
@@ -20,7 +21,7 @@ const ENCODED: &[u8] = b"{\"dictionary\":[";
 const LONG: usize = 1 << 24;
 
 /// Reports on a terminal how far the work on a long input is.
-pub fn report_progress(rt: &HostRuntime, bytes: usize, what: &str) {
+fn report_progress(rt: &HostRuntime, bytes: usize, what: &str) {
     if bytes >= LONG && rt.stderr().is_terminal() {
         // Nothing is lost if standard error is closed.
         let _ = eprintln!(rt; "dictcol: {} MiB {what}", bytes >> 20);
@@ -62,9 +63,9 @@ pub struct Inputs<'a> {
     /// What compressed the file that is read, as it looks. One that goes on with a line of an earlier file is not looked at.
     compression: Option<Compression>,
     /// The first of them that looks like one that `encode` wrote.
-    encoded: Option<Source<'a>>,
+    pub encoded: Option<Source<'a>>,
     /// The first of them that looks compressed.
-    compressed: Option<Source<'a>>,
+    pub compressed: Option<Source<'a>>,
 }
 
 impl<'a> Inputs<'a> {
@@ -175,19 +176,9 @@ impl<'a> Inputs<'a> {
         }
     }
 
-    /// Returns how many bytes were read.
-    pub fn length(&self) -> usize {
-        self.length
-    }
-
-    /// Returns the first file that looks like one that `encode` wrote.
-    pub fn find_encoded(&self) -> Option<Source<'a>> {
-        self.encoded
-    }
-
-    /// Returns the first file that looks compressed.
-    pub fn find_compressed(&self) -> Option<Source<'a>> {
-        self.compressed
+    /// Reports on a terminal that a long input is done.
+    pub fn report_end(&self) {
+        report_progress(self.rt, self.length, "done");
     }
 
     /// Returns the file that is read, or the only one. Behind the last of several it is standard input, which has no name to tell.
@@ -201,26 +192,24 @@ impl<'a> Inputs<'a> {
         }
     }
 
-    /// Returns the file that a fault is about, if it is about one, and the fault as one of this file: lines are counted from its
-    /// own first one, and a line of two files is one of that in which it begins.
-    pub fn locate(&self, fault: Fault) -> (Source<'a>, Fault)
-        ensures { IsLocated self.now.begins.items
-            (source_at self.now.sources.now self.now.at) fault result }
+    /// Returns a fault as one of the file that it is about, if it is about one: lines are counted from its own first one, and a
+    /// line of two files is one of that in which it begins.
+    pub fn locate(&self, fault: Fault) -> Located<'a>
+        ensures file { IsLocated self.now fault result }
+        ensures advice { result.advice.now ≡ [] }
     {
         let Fault::NotUtf8(line) = fault else {
-            return (self.current(), fault);
+            return Located::new(self.current(), fault);
         };
         let count = self.begins.len();
         for later in 0..count {
             let begin = self.begins[count - 1 - later];
             if begin.lines < line {
-                return (
-                    begin.source,
-                    Fault::NotUtf8(line.saturating_sub(begin.newlines)),
-                );
+                let line = line.saturating_sub(begin.newlines);
+                return Located::new(begin.source, self.explain(Fault::NotUtf8(line)));
             }
         }
-        (self.current(), fault)
+        Located::new(self.current(), self.explain(fault))
     }
 
     /// Returns a fault of the file that is read, which is told of as compressed if it looks like that.

@@ -24,7 +24,7 @@ const BLOCK: usize = 1 << 16;
 #[derive(Drop)]
 pub struct Mended<R: Read> {
     alloc: Global,
-    input: R,
+    pub input: R,
     /// What is done with what is not UTF-8. If nothing is, the input is read as it is.
     mending: Option<Mending>,
     /// What was read and is not mended. It begins where a line does.
@@ -32,7 +32,8 @@ pub struct Mended<R: Read> {
     /// What was mended, of which the first bytes were given on.
     ready: Vec<u8>,
     given: usize,
-    skipped: usize,
+    /// How many lines were left out so far.
+    pub skipped: usize,
     is_ended: bool,
     ghost within: { given ≤ length ready.items },
 }
@@ -50,16 +51,6 @@ impl<R: Read> Mended<R> {
             skipped: 0,
             is_ended: false,
         }
-    }
-
-    /// Returns the input that it reads.
-    pub fn get_ref(&self) -> &R {
-        &self.input
-    }
-
-    /// Returns how many lines were left out so far.
-    pub fn skipped(&self) -> usize {
-        self.skipped
     }
 
     /// Reads once, behind what is held. Returns how many bytes came: none at the end of the input.

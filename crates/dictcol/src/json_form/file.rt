@@ -23,6 +23,7 @@ use crate::fault::Fault;
 use crate::hasher::LineHasher;
 use crate::input::blocks::{check_utf8, count_byte};
 use crate::json_form::stream;
+use crate::output::write;
 use memchr::memrchr;
 use serde_json::Value;
 use std::alloc::Global;
@@ -122,15 +123,6 @@ fn read_codes<B: Backend>(
         codes.push(index).map_err(|_| Fault::Memory)?;
     }
     Ok(codes)
-}
-
-/// Writes some bytes.
-pub fn write<W: Write>(output: &mut W, bytes: &[u8]) -> Result<(), Fault>
-    ensures written { OnOk result
-        (Appends (W.contents output.old) (W.contents output.new) bytes.now) }
-    ensures fault { IfErr result IsWriteFault }
-{
-    output.write_all(bytes).map_err(Fault::of_write)
 }
 
 /// Writes a line, behind a newline if it is a further one.

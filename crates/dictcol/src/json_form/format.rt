@@ -12,9 +12,9 @@ ghost use Rattle.dictcol.specs.Lines.{AreLines};
 ghost use Rattle.dictcol.specs.Writes.{Puts, Writes};
 
 use super::escapes::{digit_of, is_plain, letter_of};
-use crate::block_writer::{BLOCK, BlockWriter};
 use crate::fault::Fault;
 use crate::hasher::LineHasher;
+use crate::output::block_writer::{BLOCK, BlockWriter};
 use itoa::Buffer;
 use std::alloc::Global;
 use std::io;

@@ -8,7 +8,7 @@ ghost use Rattle.dictcol.specs.Lines.{text_of_ended};
 ghost use Rattle.dictcol.specs.Plain.{plain_text, AreRows};
 
 use crate::fault::Fault;
-use crate::json_form::file::write;
+use crate::output::write;
 use std::io;
 use std::io::Write;
 

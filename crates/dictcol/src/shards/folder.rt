@@ -4,10 +4,12 @@ ghost use Rattle.std.specs.Prelude.{◌<◌, All, length, IfOk};
 ghost use Rattle.dictcol.specs.Shards.{IsWritten};
 
 use super::{Shard, Shards};
+use crate::command::ShardFolder;
 use crate::fault::Fault;
-use crate::input::zero::Exchanged;
-use crate::job::Job;
-use crate::request::{Reading, ShardFolder, Source};
+use crate::located::Located;
+use crate::output::exchanged::Exchanged;
+use crate::reader::LineReader;
+use crate::source::Source;
 use crate::unfinished::{Unfinished, store};
 use std::fs::File;
 use std::io::ErrorKind;
@@ -61,17 +63,14 @@ fn store_files(shards: &Shards<FoldState, Exchanged<File>>) -> Result<(), Fault>
 }
 
 /// Writes the lines of the input into files of the folder, and stores these.
-fn write_files(
-    job: &mut Job<'_, FoldState>,
-    place: ShardFolder<'_>,
-    is_exchanged: bool,
-) -> Result<(), Fault> {
-    let (rt, folder) = (job.rt, place.folder);
+fn write_files(lines: &mut LineReader<'_>, place: ShardFolder<'_>) -> Result<(), Fault> {
+    let (rt, folder) = (lines.rt, place.folder);
     let path = format!(in rt.alloc(); "{folder}/{ORDER}").map_err(|_| Fault::Memory)?;
     let order = create(rt, path.as_str(), false)?;
-    let outputs = create_files(rt, place, is_exchanged)?;
-    let mut shards = Shards::new(job.hasher, outputs, order);
-    shards.write_lines(rt.alloc(), &mut job.input)?;
+    let outputs = create_files(rt, place, lines.is_zero_ended)?;
+    // Every machine has the same hash codes.
+    let mut shards = Shards::new(FoldState::default(), outputs, order);
+    shards.write_lines(rt.alloc(), &mut lines.input)?;
     store_files(&shards)
 }
 
@@ -119,50 +118,36 @@ fn begin(rt: &HostRuntime, folder: &str) -> Result<Unfinished, Fault> {
 
 /// Does what `write_files` does, in a folder that gets its name once all its files are stored.
 fn write_folder(
-    job: &mut Job<'_, FoldState>,
+    lines: &mut LineReader<'_>,
     place: ShardFolder<'_>,
     unfinished: &Unfinished,
-    is_exchanged: bool,
 ) -> Result<(), Fault> {
     let count = place.count;
     let folder = unfinished.path();
-    write_files(job, ShardFolder { count, folder }, is_exchanged)?;
+    write_files(lines, ShardFolder { count, folder })?;
     unfinished
-        .rename(job.rt, place.folder)
+        .rename(lines.rt, place.folder)
         .map_err(Fault::Folder)
 }
 
-/// Writes the lines of the files, or of standard input, into a folder, which is made for them. A run that fails or is killed leaves
-/// none of this name, or a whole one. Returns how it ended, and where.
+/// Writes the lines of a reader of these files into a folder, which is made for them. A run that fails or is killed leaves none of
+/// this name, or a whole one.
 pub fn write<'a>(
-    rt: &'a HostRuntime,
+    lines: &mut LineReader<'a>,
     place: ShardFolder<'a>,
-    reading: Reading,
-    files: &'a [Source<'a>],
-) -> (Source<'a>, Result<(), Fault>) {
-    let folder = Source::File(place.folder);
-    if let Err(fault) = check_count(rt, place.count.get(), files) {
-        return (folder, Err(fault));
+    files: &[Source<'a>],
+) -> Result<(), Located<'a>> {
+    let (rt, folder) = (lines.rt, Source::File(place.folder));
+    check_count(rt, place.count.get(), files).map_err(|fault| Located::new(folder, fault))?;
+    let unfinished = begin(rt, place.folder).map_err(|fault| Located::new(folder, fault))?;
+    let outcome = write_folder(lines, place, &unfinished);
+    if outcome.is_err() {
+        unfinished.remove(rt);
     }
-    let unfinished = match begin(rt, place.folder) {
-        Ok(unfinished) => unfinished,
-        Err(fault) => return (folder, Err(fault)),
-    };
-    // Every machine has the same hash codes.
-    let mut job = Job::new(rt, FoldState::default(), reading, files);
-    match write_folder(&mut job, place, &unfinished, reading.is_zero_ended) {
-        Ok(()) => {
-            job.tell_skipped();
-            job.report_end();
-            job.warn_of_looks();
-            (folder, Ok(()))
+    match outcome {
+        Err(Fault::Output(error) | Fault::Folder(error)) => {
+            Err(Located::new(folder, Fault::Folder(error)))
         }
-        Err(fault) => {
-            unfinished.remove(rt);
-            match fault {
-                Fault::Output(error) | Fault::Folder(error) => (folder, Err(Fault::Folder(error))),
-                fault => job.locate(fault),
-            }
-        }
+        outcome => lines.end(outcome),
     }
 }

@@ -14,13 +14,13 @@
 //~ ghost use Rattle.dictcol.specs.Writes.{Writes};
 //~ ghost use Rattle.dictcol.specs.declared.fault.Fault.TheVariants.{Memory};
 
-use crate::rt::prelude::*; use crate::dictcol::fault::Fault;
+use crate::rt::prelude::*; use crate::dictcol::command::{Order, Rows};
+use crate::dictcol::fault::Fault;
 use crate::dictcol::hasher::LineHasher;
 use crate::dictcol::input::blocks;
 use crate::dictcol::input::blocks::{Taker, TakesLines};
 use crate::dictcol::input::line_blocks::{TakesBlocks, take_blocks};
-use crate::dictcol::json_form::file::write;
-use crate::dictcol::request::{Order, Rows};
+use crate::dictcol::output::write;
 use crate::itoa::Buffer;
 use crate::rt::alloc::{AllocError, Global};
 use crate::rt::io::{Read, Write};
@@ -90,6 +90,8 @@ impl<B: Backend> Taker for Counts<B> {
     //~ ghost has_taken = { HasCounted };
 
     //~ ghost refuses = { LacksCount B.numbering };
+
+    //~ ghost kept = { λ _. tt };
 }
 
 impl<B: Backend> TakesBlocks for Counts<B> {

@@ -18,8 +18,8 @@ use crate::dictcol::input::block::Block;
 use crate::dictcol::input::blocks;
 use crate::dictcol::input::blocks::{Taker, TakesLines};
 use crate::dictcol::input::line_blocks::{TakesBlocks, take_blocks};
-use crate::dictcol::json_form::file::write;
 use crate::dictcol::lines::push_line;
+use crate::dictcol::output::write;
 use crate::rt::alloc::Global;
 use crate::rt::io;
 use crate::rt::io::{ErrorKind, Read, Write};
@@ -103,6 +103,7 @@ impl<B: Backend> DistinctLines<B> {
 }
 
 impl<B: Backend> Taker for DistinctLines<B> {
+    //~ ghost use Rattle.std.specs.Prelude.{ℕ};
     //~ ghost use Rattle.dictcol.specs.Distinct.{HasMet};
     //~ ghost use Rattle.dictcol.specs.TooMany.{LacksLine};
 
@@ -110,7 +111,9 @@ impl<B: Backend> Taker for DistinctLines<B> {
 
     //~ ghost refuses = { LacksLine B.numbering };
 
-    //~ ghost written = { λ known. known.written };
+    //~ ghost Kept = { ℕ };
+
+    //~ ghost kept = { λ known. known.written };
 }
 
 impl<B: Backend> TakesBlocks for DistinctLines<B> {

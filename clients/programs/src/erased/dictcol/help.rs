@@ -2,23 +2,23 @@
 
 use crate::rt::prelude::*; /// What `--help` prints. It fits a screen of 24 lines of 80 columns.
 pub const HELP: &str = "\
-usage: dictcol encode [--plain DIR [--onto OLD]] [OPTION ..] [FILE ..]
+usage: dictcol encode [--plain DIR [--append|--onto OLD]] [OPTION ..] [FILE ..]
        dictcol decode [FILE | DIR]
+       dictcol get [--check] DIR TEXT ..
        dictcol count [--encoded | -z] [--sorted | --top N] [OPTION ..] [FILE ..]
        dictcol distinct [-z] [OPTION ..] [FILE ..]
        dictcol merge [--backend NAME] FILE ..
        dictcol shard N DIR [-z] [OPTION ..] [FILE ..]
 
-Reads each FILE in turn, or standard input if it is - or there is none.
+Reads each FILE in turn, or those that --files0-from F names, or standard input.
 encode    writes lines as JSON: the distinct lines, and a number for each line
 decode    writes the lines back, byte for byte
+get       writes the number of each TEXT in DIR/dict.txt, from 0 on
 count     writes how often each distinct line occurs, and the line
 distinct  writes each line where it comes first, and no further time
 merge     writes one file for several that encode wrote, one after another
 shard     writes DIR/0 to DIR/N-1, equal lines into one file, and DIR/order
-  --plain DIR      writes DIR/dict.txt and DIR/codes.npy, which NumPy maps
-  --onto OLD, --onto-dictionary OLD  the lines of OLD/dict.txt keep their codes
-  --files0-from F  reads the files that F names; a zero byte ends each name
+  --plain DIR; --append; --onto OLD, --onto-dictionary OLD  columns for NumPy
   --sorted, --top N, --at-least N  most frequent first, only N, only counts >= N
   --encoded; -z, --zero-terminated  of what encode wrote; zero bytes end lines
   -f N, --field N; -t C, --separator C  field N of lines, by tabs or bytes C
@@ -30,4 +30,4 @@ Exit status: 1 system or too many lines, 2 arguments or input, 141 closed output
 
 /// What follows a message about arguments.
 pub const USAGE: &str =
-    "usage: dictcol encode|decode|count|distinct|merge|shard [OPTION ..] [FILE ..] (try dictcol --help)";
+    "usage: dictcol encode|decode|get|count|distinct|merge|shard [OPTION ..] [FILE ..] (try dictcol --help)";

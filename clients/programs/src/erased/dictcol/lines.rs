@@ -25,6 +25,8 @@ impl<B: Backend> Taker for Column<B, LineHasher> {
     //~ ghost has_taken = { λ column lines. column ≡ lines };
 
     //~ ghost refuses = { LacksLine B.numbering };
+
+    //~ ghost kept = { λ _. tt };
 }
 
 impl<B: Backend> TakesLines for Column<B, LineHasher> {

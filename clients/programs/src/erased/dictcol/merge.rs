@@ -1,29 +1,37 @@
 //! `merge`: the files that `encode` wrote for some texts become that of the joined text, or its counts.
 
-//~ ghost use Rattle.std.specs.Prelude.{◌≡◌, ◌⊎◌, [], ◌∷◌, ◌++◌, drop, false, Some, IfErr, IfOk, IfSome, IsErrAnd, IsOk, OnOk, map};
+//~ ghost use Rattle.std.specs.Prelude.{◌≡◌, [], ◌∷◌, ◌++◌, drop, false, Some, IfErr, IfOk, IfSome, OnOk, map};
 //~ ghost use Rattle.std.specs.List.{flat_map, join_with_byte, list_any};
 //~ ghost use Rattle.string_interner.specs.Text.{Text};
 //~ ghost use Rattle.dictcol.specs.Counts.{IsCountsText};
-//~ ghost use Rattle.dictcol.specs.Fault.{IsTakeFault, IsWriteFault};
+//~ ghost use Rattle.dictcol.specs.Fault.{IsTakeFault, IsWriteFault, WritesLastUnless};
 //~ ghost use Rattle.dictcol.specs.File.{DecodesFile, HoldTogether, IsColumnFile, IsFileFault};
 //~ ghost use Rattle.dictcol.specs.Lines.{behind_newline, has_newline, lines_of, text_of_lines, AreLines};
-//~ ghost use Rattle.dictcol.specs.Merge.{CrowdsBehind, IsInputFault, IsMergeFault};
+//~ ghost use Rattle.dictcol.specs.Merge.{CrowdsBehind, IsInputFault, IsMergeFault, OfJoined};
 //~ ghost use Rattle.dictcol.specs.TooMany.{HasRefused, LacksLine};
 //~ ghost use Rattle.dictcol.specs.Writes.{Writes};
 //~ ghost use Rattle.dictcol.specs.declared.fault.Fault.TheVariants.{Memory};
 
-use crate::rt::prelude::*; use crate::dictcol::count;
+use crate::rt::prelude::*; use crate::dictcol::command::Rows;
+use crate::dictcol::count;
 use crate::dictcol::fault::Fault;
 use crate::dictcol::hasher::LineHasher;
 use crate::dictcol::input::whole::read_whole;
 use crate::dictcol::json_form::{file, format};
 use crate::dictcol::lines::end_rest;
-use crate::dictcol::request::Rows;
 use crate::rt::alloc::Global;
 use crate::rt::io::{Read, Write};
 use crate::rt::marker::Model;
 use crate::string_column::Column;
 use crate::erased::backend::Backend;
+
+/// Why several files that `encode` wrote were not joined.
+//~ #[derive(Drop)]
+pub struct MergeFault {
+    /// The index of the input that the fault is of, if it is of one.
+    pub index: Option<usize>,
+    pub fault: Fault,
+}
 
 /// The text so far: the lines that a newline ends, and what stands behind the last newline.
 //~ #[derive(Drop)]
@@ -175,13 +183,12 @@ fn append_input<B: Backend + Drop, R: Read>(
     text.append_file(alloc, hasher, bytes)
 }
 
-/// Reads the lines that the inputs hold, one behind the other, and whether the last one ends in a newline. Of a fault it tells which
-/// input it is of, if it is of one.
+/// Reads the lines that the inputs hold, one behind the other, and whether the last one ends in a newline.
 fn read_files<B: Backend + Drop, R: Read>(
     alloc: Global,
     hasher: LineHasher,
     inputs: &mut [R],
-) -> Result<(Column<B, LineHasher>, bool), (Option<usize>, Fault)>
+) -> Result<(Column<B, LineHasher>, bool), MergeFault>
     //~ ensures lines { IfOk result (λ lines. (text : Text)
     //~     × HoldTogether (map R.remaining inputs.old) text × AreLines text lines.0 lines.1) }
     //~ ensures fault { IfErr result (IsMergeFault B.numbering (map R.remaining inputs.old)) }
@@ -190,36 +197,39 @@ fn read_files<B: Backend + Drop, R: Read>(
     for at in 0..inputs.len() {
         match append_input(alloc, hasher, &mut text, &mut inputs[at]) {
             Ok(()) => {}
-            Err(fault) => return Err((Some(at), fault)),
+            Err(fault) => {
+                let index = Some(at);
+                return Err(MergeFault { index, fault });
+            }
         }
     }
     let TextLines { mut lines, rest } = text;
     match end_rest(&mut lines, rest.as_str()) {
         Ok(is_ended) => Ok((lines, is_ended)),
-        Err(fault) => Err((None, fault)),
+        Err(fault) => Err(MergeFault { index: None, fault }),
     }
 }
 
 /// Writes one file for several: the one that `encode` writes for the texts that they hold, one behind the other. Nothing is written
-/// before all were read. `Err` has the fault, and the index of its input, if it is of one.
+/// before all were read.
 pub fn merge<B: Backend + Drop, R: Read, W: Write>(
     alloc: Global,
     hasher: LineHasher,
     inputs: &mut [R],
     output: &mut W,
-) -> Result<(), (Option<usize>, Fault)>
-    //~ ensures written { OnOk result ((text : Text) × HoldTogether (map R.remaining inputs.old) text
-    //~     × Writes (IsColumnFile text) (W.contents output.old) (W.contents output.new)) }
+) -> Result<(), MergeFault>
+    //~ ensures written { OnOk result (Writes (OfJoined IsColumnFile (map R.remaining inputs.old))
+    //~     (W.contents output.old) (W.contents output.new)) }
 
     // Unless all went well or a write failed, the output was not touched.
-    //~ ensures silent { IsOk result ⊎ (IsErrAnd result (λ ended. IsWriteFault ended.1)
-    //~     ⊎ (output.new ≡ output.old)) }
+    //~ ensures silent { WritesLastUnless (λ ended. IsWriteFault ended.fault) result
+    //~     output.old output.new }
     //~ ensures fault { IfErr result (IsMergeFault B.numbering (map R.remaining inputs.old)) }
 {
     let (lines, is_ended) = read_files::<B, R>(alloc, hasher, inputs)?;
     match format::write_file(alloc, &lines, is_ended, output) {
         Ok(()) => Ok(()),
-        Err(fault) => Err((None, fault)),
+        Err(fault) => Err(MergeFault { index: None, fault }),
     }
 }
 
@@ -230,17 +240,16 @@ pub fn count_encoded<B: Backend + Drop, R: Read, W: Write>(
     asked: Rows,
     inputs: &mut [R],
     output: &mut W,
-) -> Result<(), (Option<usize>, Fault)>
-    //~ ensures written { OnOk result ((text : Text) × HoldTogether (map R.remaining inputs.old) text
-    //~     × Writes (IsCountsText asked (lines_of text))
-    //~     (W.contents output.old) (W.contents output.new)) }
-    //~ ensures silent { IsOk result ⊎ (IsErrAnd result (λ ended. IsWriteFault ended.1)
-    //~     ⊎ (output.new ≡ output.old)) }
+) -> Result<(), MergeFault>
+    //~ ensures written { OnOk result (Writes (OfJoined (λ text. IsCountsText asked (lines_of text))
+    //~     (map R.remaining inputs.old)) (W.contents output.old) (W.contents output.new)) }
+    //~ ensures silent { WritesLastUnless (λ ended. IsWriteFault ended.fault) result
+    //~     output.old output.new }
     //~ ensures fault { IfErr result (IsMergeFault B.numbering (map R.remaining inputs.old)) }
 {
     let (lines, _) = read_files::<B, R>(alloc, hasher, inputs)?;
     match count::write_column_counts(alloc, &lines, asked, output) {
         Ok(()) => Ok(()),
-        Err(fault) => Err((None, fault)),
+        Err(fault) => Err(MergeFault { index: None, fault }),
     }
 }

@@ -1,56 +1,62 @@
-//! The program `dictcol`: writes lines as a dictionary with a number for each line, reads them back, merges such files, and
-//! counts and splits lines.
+//! The program `dictcol`: writes lines as a dictionary with a number for each line, reads them back, finds some of them, merges such
+//! files, and counts and splits lines.
 //~ #![tactic(auto)]
 
-use crate::rt::prelude::*; pub mod answer;
-pub mod arguments;
-pub mod block_writer;
+use crate::rt::prelude::*; pub mod arguments;
 pub mod columns;
+pub mod command;
 pub mod count;
 pub mod decode;
 pub mod distinct;
 pub mod encode;
 pub mod fault;
+pub mod get;
 pub mod hasher;
 pub mod help;
 pub mod input;
-pub mod job;
 pub mod json_form;
 pub mod lines;
+pub mod located;
 pub mod merge;
 pub mod names;
+pub mod output;
 pub mod plain;
-pub mod request;
+pub mod reader;
 pub mod shards;
 pub mod shown;
+pub mod source;
 pub mod unfinished;
 
-use arguments::Misuse;
+use arguments::misuse::Misuse;
+use command::{BackendKind, Command, Files, Invocation};
 use fault::Fault;
-use hasher::LineHasher;
+use get::Get;
 use help::{HELP, USAGE};
 use input::inputs::Inputs;
 use input::streams;
 use input::whole::read_whole;
-use job::{Job, open_output};
+use located::Located;
 use names::NameFault;
 use plain::folder;
-use request::{Action, Answer, Choice, Files, NAME_ADVICE, Reading, Request, Source, Task};
+use reader::Reading;
 use shown::ShownPath;
+use source::{NAME_ADVICE, Source};
 use crate::rt::env;
 use crate::rt::env::{Env, FillError};
-use crate::rt::io::{ErrorKind, Write};
+use crate::rt::io::Write;
 use crate::rt::process::ExitCode;
-use crate::erased::backend::{BucketBackend, BufferBackend, StringBackend};
 
 /// The status if the arguments are wrong.
 const MISUSED: u8 = 2;
 
+/// The status if a text that is asked for is not there.
+const MISSING: u8 = 1;
+
 /// What `--version` prints.
 const VERSION: &str = "dictcol 0.1.0\n";
 
-/// What is said if a list with newlines and no zero byte names a file that cannot be read.
-const UNENDED: &str = " (no zero byte ends a name in the list: see --files0-from)";
+/// What may be done if a list with newlines and no zero byte names a file that cannot be read.
+const LIST_ADVICE: &str = " (no zero byte ends a name in the list: see --files0-from)";
 
 /// What is said of a folder in the place of a file.
 const IS_FOLDER: &str = "a folder that encode --plain wrote; decode writes its text";
@@ -74,73 +80,20 @@ fn find_argument(rt: &HostRuntime) -> Option<usize> {
     None
 }
 
-/// Prints why the arguments cannot be read, and returns the status.
-fn end_arguments(rt: &HostRuntime, fault: Fault) -> ExitCode {
-    match (&fault, find_argument(rt)) {
-        (Fault::Argument, Some(number)) => {
-            let _ = crate::rt::eprintln!(rt; "dictcol: argument {number} is not UTF-8{NAME_ADVICE}");
-            ExitCode::from(MISUSED)
-        }
-        _ => end(rt, "", Source::StandardInput, Err(fault)),
-    }
-}
-
-/// Writes the text of a folder of plain columns.
-fn decode_folder(rt: &HostRuntime, path: &str) -> Result<(), Fault> {
-    folder::decode(rt, path, &mut open_output(rt, false)?)
-}
-
-/// Does a task on the files, whose lines are stored in the backend of this name. Returns how it ended, and the file where it ended,
-/// if it was at one.
-fn do_task<'a>(
-    rt: &'a HostRuntime,
-    task: Task<'a>,
-    choice: Choice,
-    reading: Reading,
-    files: &'a [Source<'a>],
-) -> (Source<'a>, Result<(), Fault>) {
-    if let (Task::Answer(Answer::Decoded), Some(Source::File(path))) = (task, files.first()) {
-        if folder::is_folder(rt, path) {
-            return (Source::File(path), decode_folder(rt, path));
-        }
-    }
-    let hasher = match LineHasher::draw(rt) {
-        Ok(hasher) => hasher,
-        Err(fault) => return (Source::StandardInput, Err(fault)),
-    };
-    let mut job = Job::new(rt, hasher, reading, files);
-    match choice {
-        Choice::String => job.run::<StringBackend>(task),
-        Choice::Bucket => job.run::<BucketBackend>(task),
-        Choice::Buffer => job.run::<BufferBackend>(task),
-    }
-}
-
 /// Prints a text.
-fn print(rt: &HostRuntime, text: &str) -> Result<(), Fault> {
-    rt.stdout()
-        .write_all(text.as_bytes())
-        .map_err(Fault::of_write)
-}
-
-/// Returns what may be done about a fault of reading lines.
-fn advice_on_lines(outcome: &Result<(), Fault>) -> &'static str {
-    match outcome {
-        Err(Fault::NotUtf8(_)) => " (see --invalid)",
-        Err(Fault::NumbersFile(error)) if error.kind() == ErrorKind::NotFound => {
-            " (see --onto-dictionary)"
-        }
-        _ => "",
-    }
+fn print(rt: &HostRuntime, text: &str) -> Result<(), Located<'static>> {
+    let outcome = rt.stdout().write_all(text.as_bytes());
+    Ok(outcome.map_err(Fault::of_write)?)
 }
 
 /// Prints on standard error what failed, if something did, and what may be done about it. Returns the status.
-fn end(rt: &HostRuntime, advice: &str, source: Source<'_>, outcome: Result<(), Fault>) -> ExitCode {
-    let Err(fault) = outcome else {
+fn end(rt: &HostRuntime, outcome: Result<(), Located<'_>>) -> ExitCode {
+    let Err(located) = outcome else {
         return ExitCode::SUCCESS;
     };
+    let (fault, advice) = (&located.fault, located.advice);
     // Nothing is left to do if standard error is closed.
-    let _ = match (source, &fault) {
+    let _ = match (located.source, fault) {
         // A reader that closed the output, as `head` does, needs no message.
         (_, Fault::ClosedOutput) => Ok(()),
         // The file has no part in what is written.
@@ -159,35 +112,24 @@ fn end(rt: &HostRuntime, advice: &str, source: Source<'_>, outcome: Result<(), F
     ExitCode::from(fault.status())
 }
 
-/// Returns whether newlines end the names in a list, as it looks.
-fn is_unended(list: &[u8]) -> bool {
-    list.contains(&b'\n') && !list.contains(&0)
+/// Prints why the arguments cannot be read, and returns the status.
+fn end_arguments(rt: &HostRuntime, fault: Fault) -> ExitCode {
+    match (&fault, find_argument(rt)) {
+        (Fault::Argument, Some(number)) => {
+            let _ = crate::rt::eprintln!(rt; "dictcol: argument {number} is not UTF-8{NAME_ADVICE}");
+            ExitCode::from(MISUSED)
+        }
+        _ => end(rt, Err(Located::from(fault))),
+    }
 }
 
-/// Does what is asked for with files, prints what failed, and returns the status. `list` has what named the files, if a list did.
-fn act<'a>(
-    rt: &'a HostRuntime,
-    action: Action<'a>,
-    files: &'a [Source<'a>],
-    list: &[u8],
-) -> ExitCode {
-    let (reads_lines, (source, outcome)) = match action {
-        Action::Do(task, choice, reading) => {
-            (
-                task.reads_lines(),
-                do_task(rt, task, choice, reading, files),
-            )
-        }
-        Action::WriteShards(place, reading) => {
-            (true, shards::folder::write(rt, place, reading, files))
-        }
-    };
-    let advice = match outcome {
-        Err(Fault::Input(_)) if is_unended(list) => UNENDED,
-        _ if reads_lines => advice_on_lines(&outcome),
-        _ => "",
-    };
-    end(rt, advice, source, outcome)
+/// Writes what is got of a folder, prints what failed, and returns the status.
+fn act_on_columns(rt: &HostRuntime, asked: &Get<'_>) -> ExitCode {
+    match get::write(rt, asked) {
+        Ok(true) => ExitCode::SUCCESS,
+        Ok(false) => ExitCode::from(MISSING),
+        Err(fault) => end(rt, Err(Located::new(Source::File(asked.folder), fault))),
+    }
 }
 
 /// Prints what is wrong with a list of names, and returns the status.
@@ -202,17 +144,36 @@ fn end_list(rt: &HostRuntime, list: Source<'_>, fault: NameFault) -> ExitCode {
     ExitCode::from(MISUSED)
 }
 
-/// Does what is asked for with the files that a list names.
-fn act_on_listed(rt: &HostRuntime, action: Action<'_>, list: Source<'_>) -> ExitCode {
+/// Returns whether newlines end the names in a list, as it looks.
+fn is_unended(list: &[u8]) -> bool {
+    list.contains(&b'\n') && !list.contains(&0)
+}
+
+/// Runs a command on the files that a list names.
+fn run_on_listed(
+    rt: &HostRuntime,
+    command: Command<'_>,
+    backend: BackendKind,
+    reading: Reading,
+    list: Source<'_>,
+) -> ExitCode {
     let sources = [list];
     let bytes = match read_whole(rt.alloc(), &mut Inputs::new(rt, &sources, false)) {
         Ok(bytes) => bytes,
-        Err(fault) => return end(rt, "", list, Err(fault)),
+        Err(fault) => return end(rt, Err(Located::new(list, fault))),
     };
     let has_input = matches!(list, Source::StandardInput);
     match names::find_files(rt.alloc(), &bytes, has_input) {
-        Ok(files) => act(rt, action, &files, &bytes),
-        Err(NameFault::Memory) => end(rt, "", list, Err(Fault::Memory)),
+        Ok(files) => {
+            let mut outcome = command.run(rt, backend, reading, &files);
+            if let Err(located) = &mut outcome {
+                if matches!(located.fault, Fault::Input(_)) && is_unended(&bytes) {
+                    located.advice = LIST_ADVICE;
+                }
+            }
+            end(rt, outcome)
+        }
+        Err(NameFault::Memory) => end(rt, Err(Located::new(list, Fault::Memory))),
         Err(fault) => end_list(rt, list, fault),
     }
 }
@@ -224,14 +185,22 @@ pub fn main(rt: HostRuntime) -> ExitCode {
         Err(fault) => return end_arguments(&rt, fault),
     };
     match arguments::parse_arguments(rt.alloc(), &arguments) {
-        Ok(Request::Help) => end(&rt, "", Source::StandardInput, print(&rt, HELP)),
-        Ok(Request::Version) => end(&rt, "", Source::StandardInput, print(&rt, VERSION)),
-        Ok(Request::Act(action, Files::Named(files))) if files.is_empty() => {
-            act(&rt, action, &[Source::StandardInput], &[])
+        Ok(Invocation::Help) => end(&rt, print(&rt, HELP)),
+        Ok(Invocation::Version) => end(&rt, print(&rt, VERSION)),
+        Ok(Invocation::Run(command, backend, reading, Files::Named(files))) if files.is_empty() => {
+            end(
+                &rt,
+                command.run(&rt, backend, reading, &[Source::StandardInput]),
+            )
         }
-        Ok(Request::Act(action, Files::Named(files))) => act(&rt, action, &files, &[]),
-        Ok(Request::Act(action, Files::Listed(list))) => act_on_listed(&rt, action, list),
-        Err(Misuse::Memory) => end(&rt, "", Source::StandardInput, Err(Fault::Memory)),
+        Ok(Invocation::Run(command, backend, reading, Files::Named(files))) => {
+            end(&rt, command.run(&rt, backend, reading, &files))
+        }
+        Ok(Invocation::Run(command, backend, reading, Files::Listed(list))) => {
+            run_on_listed(&rt, command, backend, reading, list)
+        }
+        Ok(Invocation::Get(asked)) => act_on_columns(&rt, &asked),
+        Err(Misuse::Memory) => end(&rt, Err(Located::from(Fault::Memory))),
         Err(misuse) => {
             let _ = crate::rt::eprintln!(rt; "dictcol: {misuse}\n{USAGE}");
             ExitCode::from(MISUSED)

@@ -7,7 +7,7 @@
 //~ ghost use Rattle.dictcol.specs.Names.{dash, is_dash, is_zero, names_of, AreGood, IsListFault, IsNamesFault, IsWrong, Names};
 
 use crate::rt::prelude::*; use crate::dictcol::input::blocks::count_byte;
-use crate::dictcol::request::{INPUT_TWICE, NAME_ADVICE, Source};
+use crate::dictcol::source::{INPUT_TWICE, NAME_ADVICE, Source};
 use crate::rt::alloc::{AllocError, Global};
 //~ use thiserror::Error;
 

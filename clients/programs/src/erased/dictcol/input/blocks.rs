@@ -24,8 +24,10 @@ pub trait Taker: Sized {
     //~ /// Behind these lines this one is refused, because there are too many.
     //~ ghost refuses: { List Text → Text → Type 0 };
 
-    //~ /// So many of its distinct lines were written, which taking lines leaves as it is.
-    //~ ghost written: { Self → ℕ } = { λ _. 0 };
+    //~ /// What taking lines leaves as it is.
+    //~ ghost Kept: { Type 0 } = { Unit {0} };
+
+    //~ ghost kept: { Self → Kept };
 }
 
 /// What takes the lines of a text.
@@ -34,7 +36,7 @@ pub trait TakesLines: Sized + Taker {
     fn take_lines(&mut self, text: &str) -> Result<(), Fault>;
         //~ ensures ok { OnOk result
         //~     (Takes Self.has_taken self.old self.new (slice_split is_newline text.now)) }
-        //~ ensures same { Self.written self.new ≡ Self.written self.old }
+        //~ ensures same { Self.kept self.new ≡ Self.kept self.old }
         //~ ensures fault { (lines : List Text) → Self.has_taken self.old lines → IfErr result
         //~     (IsTakeFault (HasRefused Self.refuses (lines ++ slice_split is_newline text.now))) };
 
@@ -76,7 +78,7 @@ fn take_front<L: TakesLines>(block: &mut Block, at: usize, lines: &mut L) -> Res
     //~ requires { EndsAtNewline (held block.old) at }
     //~ ensures taken { OnOk result (Takes L.has_taken lines.old lines.new
     //~     (slice_split is_newline (take at (held block.old)))) }
-    //~ ensures same { L.written lines.new ≡ L.written lines.old }
+    //~ ensures same { L.kept lines.new ≡ L.kept lines.old }
     //~ ensures rest { OnOk result (held block.new ≡ drop (at + 1) (held block.old)) }
     //~ ensures utf8 { OnOk result (IsUtf8 (take at (held block.old))) }
     //~ ensures fault { (seen : List Text) → L.has_taken lines.old seen
@@ -99,7 +101,7 @@ fn take_whole_lines<L: TakesLines>(
     //~ ensures read { (input left : Option Text)
     //~     → HasRead L.has_taken input left lines.old (held block.old)
     //~     → OnOk result (HasRead L.has_taken input left lines.new (held block.new)) }
-    //~ ensures same { L.written lines.new ≡ L.written lines.old }
+    //~ ensures same { L.kept lines.new ≡ L.kept lines.old }
     //~ ensures rest { OnOk result (HoldsNoNewline block.new) }
     //~ ensures fault { (input left : Option Text)
     //~     → HasRead L.has_taken input left lines.old (held block.old)
@@ -121,7 +123,7 @@ pub fn read_block<R: Read, L: TakesLines>(
     //~ ensures read { (all : Option Text)
     //~     → HasRead L.has_taken all (R.remaining input.old) lines.old (held block.old)
     //~     → OnOk result (HasRead L.has_taken all (R.remaining input.new) lines.new (held block.new)) }
-    //~ ensures same { L.written lines.new ≡ L.written lines.old }
+    //~ ensures same { L.kept lines.new ≡ L.kept lines.old }
     //~ ensures rest { OnOk result (HoldsNoNewline block.new) }
     //~ ensures end { IfOk result (λ is_end. IsTrue is_end → IsAtEnd (R.remaining input.new)) }
     //~ ensures fault { (all : Option Text)
@@ -162,6 +164,7 @@ pub fn read_lines<R: Read, L: TakesLines>(
     //~ requires { L.has_taken lines.old [] }
     //~ ensures ok { IfOk result (λ rest. (seen : List Text) × L.has_taken lines.new seen
     //~     × IsTextOf (R.remaining input.old) seen (string_bytes rest)) }
+    //~ ensures same { L.kept lines.new ≡ L.kept lines.old }
     //~ ensures fault { IfErr result (IsLinesFault L.refuses (R.remaining input.old)) }
 {
     let mut block = Block::new(alloc)?;

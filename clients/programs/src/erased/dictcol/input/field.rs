@@ -28,8 +28,9 @@ enum Seen {
 /// in any case. Nothing of the input is held.
 //~ #[derive(Drop)]
 pub struct Picked<R: Read> {
-    input: R,
-    field: Option<Field>,
+    pub input: R,
+    /// What is read of each line, if it is not the line.
+    pub field: Option<Field>,
     /// How many separators the line has had.
     passed: usize,
     seen: Seen,
@@ -44,16 +45,6 @@ impl<R: Read> Picked<R> {
             passed: 0,
             seen: Seen::Nothing,
         }
-    }
-
-    /// Returns the input that it reads.
-    pub fn get_ref(&self) -> &R {
-        &self.input
-    }
-
-    /// Returns whether it reads a field of each line.
-    pub fn has_field(&self) -> bool {
-        self.field.is_some()
     }
 
     /// Moves the bytes of a field, and the ends of lines, to the front of the bytes that come next. Returns how many these are.

@@ -19,7 +19,7 @@ pub trait TakesBlocks: Sized + Taker {
     /// Takes a line.
     fn add(&mut self, line: &str) -> Result<(), Fault>;
         //~ ensures taken { OnOk result (Takes Self.has_taken self.old self.new (line.now ∷ [])) }
-        //~ ensures same { Self.written self.new ≡ Self.written self.old }
+        //~ ensures same { Self.kept self.new ≡ Self.kept self.old }
         //~ ensures fault { (lines : List Text) → Self.has_taken self.old lines
         //~     → IfErr result (IsTakeFault (Self.refuses lines line.now)) };
 
@@ -27,7 +27,7 @@ pub trait TakesBlocks: Sized + Taker {
     fn add_block(&mut self, block: &[&str]) -> Result<(), Fault>;
         //~ requires { length block.now ≤ 256 }
         //~ ensures taken { OnOk result (Takes Self.has_taken self.old self.new (texts_of block.now)) }
-        //~ ensures same { Self.written self.new ≡ Self.written self.old }
+        //~ ensures same { Self.kept self.new ≡ Self.kept self.old }
         //~ ensures fault { (lines : List Text) → Self.has_taken self.old lines → IfErr result
         //~     (IsTakeFault (HasRefused Self.refuses (lines ++ texts_of block.now))) };
 
@@ -39,7 +39,7 @@ pub trait TakesBlocks: Sized + Taker {
 pub fn take_blocks<T: TakesBlocks>(taker: &mut T, text: &str) -> Result<(), Fault>
     //~ ensures ok { OnOk result
     //~     (Takes T.has_taken taker.old taker.new (slice_split is_newline text.now)) }
-    //~ ensures same { T.written taker.new ≡ T.written taker.old }
+    //~ ensures same { T.kept taker.new ≡ T.kept taker.old }
     //~ ensures fault { (lines : List Text) → T.has_taken taker.old lines → IfErr result
     //~     (IsTakeFault (HasRefused T.refuses (lines ++ slice_split is_newline text.now))) }
 {

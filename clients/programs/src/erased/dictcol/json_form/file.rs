@@ -23,6 +23,7 @@ use crate::rt::prelude::*; use crate::dictcol::fault::Fault;
 use crate::dictcol::hasher::LineHasher;
 use crate::dictcol::input::blocks::{check_utf8, count_byte};
 use crate::dictcol::json_form::stream;
+use crate::dictcol::output::write;
 use crate::memchr::memrchr;
 use crate::rt::serde_json::Value;
 use crate::rt::alloc::Global;
@@ -122,15 +123,6 @@ fn read_codes<B: Backend>(
         codes.push(index).map_err(|_| Fault::Memory)?;
     }
     Ok(codes)
-}
-
-/// Writes some bytes.
-pub fn write<W: Write>(output: &mut W, bytes: &[u8]) -> Result<(), Fault>
-    //~ ensures written { OnOk result
-    //~     (Appends (W.contents output.old) (W.contents output.new) bytes.now) }
-    //~ ensures fault { IfErr result IsWriteFault }
-{
-    output.write_all(bytes).map_err(Fault::of_write)
 }
 
 /// Writes a line, behind a newline if it is a further one.

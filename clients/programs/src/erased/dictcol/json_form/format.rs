@@ -12,9 +12,9 @@
 //~ ghost use Rattle.dictcol.specs.Writes.{Puts, Writes};
 
 use crate::rt::prelude::*; use super::escapes::{digit_of, is_plain, letter_of};
-use crate::dictcol::block_writer::{BLOCK, BlockWriter};
 use crate::dictcol::fault::Fault;
 use crate::dictcol::hasher::LineHasher;
+use crate::dictcol::output::block_writer::{BLOCK, BlockWriter};
 use crate::itoa::Buffer;
 use crate::rt::alloc::Global;
 use crate::rt::io;

@@ -4,15 +4,17 @@
 //~ ghost use Rattle.std.specs.Io.KnownBytes.{Appends};
 //~ ghost use Rattle.string_interner.specs.Text.{Text, IsDistinct};
 //~ ghost use Rattle.string_column.specs.Parts.{IsRepeat};
+//~ ghost use Rattle.dictcol.specs.Get.{IsPassFault};
 //~ ghost use Rattle.dictcol.specs.Lines.{text_of_ended};
 //~ ghost use Rattle.dictcol.specs.TooMany.{LacksLine};
 //~ ghost use Rattle.dictcol.specs.Plain.{line_bounds, IsBoundsFault, IsDictionary, IsDictionaryFault, IsLinesFile};
 
-use crate::rt::prelude::*; use crate::dictcol::block_writer::BlockWriter;
-use crate::dictcol::fault::Fault;
+use crate::rt::prelude::*; use crate::dictcol::fault::Fault;
 use crate::dictcol::hasher::LineHasher;
-use crate::dictcol::input::blocks::check_utf8;
+use crate::dictcol::input::blocks;
+use crate::dictcol::input::blocks::{TakesLines, check_utf8};
 use crate::dictcol::lines::read_lines;
+use crate::dictcol::output::block_writer::BlockWriter;
 use crate::memchr::memchr;
 use crate::rt::alloc::Global;
 use crate::rt::io;
@@ -80,6 +82,25 @@ pub fn read<B: Backend + Drop, R: Read>(
     match find_repeat(&lines) {
         None => Ok(lines),
         Some(number) => Err(Fault::RepeatedLine(number)),
+    }
+}
+
+/// Gives the lines of a file, which may be there twice, to what takes them.
+pub fn take_file<R: Read, L: TakesLines>(
+    alloc: Global,
+    file: &mut R,
+    taker: &mut L,
+) -> Result<(), Fault>
+    //~ requires { L.has_taken taker.old [] }
+    //~ ensures ok { OnOk result ((lines : List Text) × L.has_taken taker.new lines
+    //~     × IfSome (R.remaining file.old) (IsLinesFile lines)) }
+    //~ ensures same { L.kept taker.new ≡ L.kept taker.old }
+    //~ ensures fault { IfErr result (IsPassFault L.refuses (R.remaining file.old)) }
+{
+    match blocks::read_lines(alloc, file, taker) {
+        Ok(rest) if rest.is_empty() => Ok(()),
+        Ok(_) => Err(Fault::NotEnded),
+        Err(fault) => Err(Fault::of_dictionary(fault)),
     }
 }
 

@@ -3,17 +3,19 @@
 //! `codes.npy` is the first file that is taken away and the last that gets its name. So while it is there, the other files are of
 //! its run, and who finds it in its place after opening the others has files of one run.
 
-use crate::rt::prelude::*; use super::exchange::exchange;
-use super::{Plain, npy, pair};
+use crate::rt::prelude::*; use super::exchange::{end_left, exchange};
+use super::{Plain, find, npy, pair};
+use crate::dictcol::command::Onto;
 use crate::dictcol::fault::Fault;
+use crate::dictcol::get::Get;
 use crate::dictcol::hasher::LineHasher;
 use crate::dictcol::input::blocks::count_byte;
-use crate::dictcol::request::Onto;
 use crate::dictcol::unfinished::{NAME, Unfinished, busy, is_same, is_taken, store, store_parent};
+use crate::memchr::memchr;
 use crate::rt::alloc::Global;
 use crate::rt::fs::{File, Metadata};
 use crate::rt::io::{ErrorKind, Read, Write};
-use crate::rt::os::unix::fs::{MetadataExt, OpenOptionsExt, fchown};
+use crate::rt::os::unix::fs::{FileExt, MetadataExt, OpenOptionsExt, fchown};
 use crate::rt::{fs, io};
 use crate::erased::backend::Backend;
 
@@ -200,9 +202,30 @@ impl Files {
         };
         let bytes = numbers.get(npy::HEADER..).unwrap_or(&[]);
         let front = pair::format_bytes(alloc, lines, bytes)?;
-        let Some(end) = pair.as_slice().strip_prefix(front.as_bytes()) else {
+        match pair.as_slice().strip_prefix(front.as_bytes()) {
+            Some(end) => self.check_end(end),
+            None => Err(Fault::NotAPair),
+        }
+    }
+
+    /// Checks that `pair.txt`, if it is there, is of so many lines and numbers, and of the end of the text. The checksum needs all
+    /// numbers, and is passed over.
+    fn check_counts(&self, alloc: Global, lines: usize, numbers: usize) -> Result<(), Fault> {
+        let Some(pair) = &self.pair else {
+            return Ok(());
+        };
+        let front = pair::format_counts(alloc, lines, numbers)?;
+        let Some(rest) = pair.as_slice().strip_prefix(front.as_bytes()) else {
             return Err(Fault::NotAPair);
         };
+        match memchr(b'\n', rest) {
+            Some(at) => self.check_end(&rest[at + 1..]),
+            None => Err(Fault::NotAPair),
+        }
+    }
+
+    /// Checks what `pair.txt` says behind the checksum. Earlier versions wrote nothing there.
+    fn check_end(&self, end: &[u8]) -> Result<(), Fault> {
         if end.is_empty() || end == pair::end_line(self.is_cut).as_bytes() {
             return Ok(());
         }
@@ -216,11 +239,61 @@ impl Files {
     }
 }
 
+/// Returns how many numbers a file has, of which only what stands before them is read.
+fn count_numbers(alloc: Global, file: &File) -> Result<usize, Fault> {
+    let length = file.metadata().map_err(Fault::of_read)?.len() as usize;
+    let mut header = [0; npy::HEADER];
+    match file.read_exact_at(&mut header, 0) {
+        Ok(()) => npy::count_numbers(alloc, &header, length.saturating_sub(npy::HEADER)),
+        Err(error) if error.kind() == ErrorKind::UnexpectedEof => Err(Fault::NotNpy),
+        Err(error) => Err(Fault::of_read(error)),
+    }
+}
+
 /// Returns the fault of files that are not of one run, or one that tells what is damaged in them.
 fn find_fault(alloc: Global, dictionary: &[u8], numbers: &[u8], fault: Fault) -> Fault {
     match super::decode(alloc, dictionary, numbers, false, &mut io::sink()) {
         Ok(()) => fault,
         Err(fault) => fault,
+    }
+}
+
+/// What stands before the rows of a text.
+//~ #[derive(Drop)]
+pub struct Before<B: Backend> {
+    /// The lines of the dictionary.
+    pub plain: Plain<B>,
+    /// The file `codes.npy` of the rows that stay, or nothing.
+    numbers: Vec<u8>,
+}
+
+impl<B: Backend + Drop> Before<B> {
+    /// Nothing stands there.
+    pub fn none(alloc: Global, hasher: LineHasher) -> Result<Self, Fault> {
+        Ok(Before {
+            plain: Plain::begin(alloc, hasher, &mut io::empty(), false)?,
+            numbers: Vec::new(alloc),
+        })
+    }
+
+    /// Reads the files of one run, of which no line is missing, as the numbers show. The last of the rows that stay, if they do,
+    /// has a newline or not.
+    fn of_files(
+        alloc: Global,
+        hasher: LineHasher,
+        mut files: Files,
+        is_cut: bool,
+    ) -> Result<Self, Fault> {
+        let plain = Plain::begin(alloc, hasher, &mut files.dictionary, is_cut)?;
+        let numbers = read(alloc, &mut files.numbers).map_err(Fault::of_numbers)?;
+        let _ = npy::read(alloc, &numbers, plain.known())?;
+        files.check_pair(alloc, plain.known(), &numbers)?;
+        Ok(Before { plain, numbers })
+    }
+
+    /// Returns the numbers of the rows that stay, four bytes each.
+    fn rows(&self) -> &[u8] {
+        self.numbers.get(npy::HEADER..).unwrap_or(&[])
     }
 }
 
@@ -231,19 +304,65 @@ pub fn read_dictionary<B: Backend + Drop>(
     hasher: LineHasher,
     onto: Onto<'_>,
     place: &Place<'_>,
-) -> Result<Plain<B>, Fault> {
+) -> Result<Before<B>, Fault> {
     let alloc = rt.alloc();
-    if onto.is_dictionary {
+    let plain = if onto.is_dictionary {
         let path = join(alloc, onto.folder, DICTIONARY)?;
         let mut dictionary = open(rt, path.as_str()).map_err(Fault::of_dictionary)?;
-        return Plain::begin(alloc, hasher, &mut dictionary);
+        Plain::begin(alloc, hasher, &mut dictionary, false)?
+    } else {
+        let files = Files::open(rt, onto.folder, Some(&place.unfinished))?;
+        Before::of_files(alloc, hasher, files, false)?.plain
+    };
+    Ok(Before {
+        plain,
+        numbers: Vec::new(alloc),
+    })
+}
+
+/// Returns whether a name in a folder is that of a file.
+fn has_file(rt: &HostRuntime, folder: &str, name: &str) -> Result<bool, Fault> {
+    let path = join(rt.alloc(), folder, name)?;
+    match fs::symlink_metadata(rt, path.as_str()) {
+        Ok(_) => Ok(true),
+        Err(error) if error.kind() == ErrorKind::NotFound => Ok(false),
+        Err(error) => Err(Fault::Folder(error)),
     }
-    let mut files = Files::open(rt, onto.folder, Some(&place.unfinished))?;
-    let before = Plain::begin(alloc, hasher, &mut files.dictionary)?;
-    let numbers = read(alloc, &mut files.numbers).map_err(Fault::of_numbers)?;
-    let _ = npy::read(alloc, &numbers, before.known())?;
-    files.check_pair(alloc, before.known(), &numbers)?;
-    Ok(before)
+}
+
+/// Reads the columns in this place, whose rows stay. If there is neither a dictionary nor numbers, there are none.
+pub fn read_rows<B: Backend + Drop>(
+    rt: &HostRuntime,
+    hasher: LineHasher,
+    place: &Place<'_>,
+) -> Result<Before<B>, Fault> {
+    let (alloc, folder) = (rt.alloc(), place.folder);
+    if !has_file(rt, folder, DICTIONARY)? && !has_file(rt, folder, NUMBERS)? {
+        return Before::none(alloc, hasher);
+    }
+    let files = Files::open(rt, folder, Some(&place.unfinished))?;
+    let is_cut = files.is_cut;
+    Before::of_files(alloc, hasher, files, is_cut)
+}
+
+/// Finds the numbers of texts in the dictionary of a folder. Reads the numbers of its lines only if they are checked.
+pub fn find_numbers<B: Backend + Drop>(
+    rt: &HostRuntime,
+    hasher: LineHasher,
+    get: &Get<'_>,
+) -> Result<Vec<Option<usize>>, Fault> {
+    let alloc = rt.alloc();
+    let mut files = Files::open(rt, get.folder, None)?;
+    let found = find::find_numbers::<B, _>(alloc, hasher, &get.texts, &mut files.dictionary)?;
+    let count = count_numbers(alloc, &files.numbers).map_err(Fault::of_numbers)?;
+    if get.is_checked {
+        let numbers = read(alloc, &mut files.numbers).map_err(Fault::of_numbers)?;
+        let _ = npy::read(alloc, &numbers, found.lines)?;
+        files.check_pair(alloc, found.lines, &numbers)?;
+    } else {
+        files.check_counts(alloc, found.lines, count)?;
+    }
+    Ok(found.numbers)
 }
 
 /// Writes the text of a folder.
@@ -302,18 +421,19 @@ fn write_new<B: Backend + Drop>(
     rt: &HostRuntime,
     new: &Paths,
     old: &Paths,
-    plain: &Plain<B>,
+    before: &Before<B>,
 ) -> Result<(), Fault> {
     let alloc = rt.alloc();
+    let (plain, rows) = (&before.plain, before.rows());
     let other = look(rt, old.numbers.as_str());
     let mut dictionary = create(rt, new.dictionary.as_str(), old.dictionary.as_str(), &other)?;
     let mut numbers = create(rt, new.numbers.as_str(), old.numbers.as_str(), &other)?;
-    match plain.write(alloc, &mut dictionary, &mut numbers) {
+    match plain.write(alloc, rows, &mut dictionary, &mut numbers) {
         Err(Fault::Output(error)) => return Err(Fault::Folder(error)),
         outcome => outcome?,
     }
     let mut pair = create(rt, new.pair.as_str(), old.pair.as_str(), &other)?;
-    let text = plain.format_pair(alloc)?;
+    let text = plain.format_pair(alloc, rows)?;
     pair.write_all(text.as_bytes()).map_err(Fault::Folder)?;
     if plain.is_cut() {
         store(&create(rt, new.cut.as_str(), old.cut.as_str(), &other)?)?;
@@ -363,14 +483,49 @@ pub struct Place<'a> {
     unfinished: Unfinished,
 }
 
+/// Ends what a killed run left half done in a folder: the numbers of its rows are nowhere else. Another run may be at it now, which
+/// is told when the folder is taken.
+fn recover(rt: &HostRuntime, folder: &str) -> Result<(), Fault> {
+    let alloc = rt.alloc();
+    let left = join(alloc, folder, NAME)?;
+    match fs::symlink_metadata(rt, left.as_str()) {
+        Ok(metadata) if metadata.is_dir() => {}
+        _ => return Ok(()),
+    }
+    let unfinished = File::open(rt, left.as_str()).map_err(Fault::Folder)?;
+    if unfinished.try_lock().is_err() {
+        return Ok(());
+    }
+    let old = Paths::new(alloc, folder)?;
+    let new = Paths::new(alloc, left.as_str())?;
+    let kept = Paths::kept(alloc, left.as_str())?;
+    let is_cut = match read_pair(rt, old.pair.as_str()).map_err(Fault::of_pair)? {
+        Some(pair) => pair.ends_with(pair::end_line(true).as_bytes()),
+        None => false,
+    };
+    end_left(rt, folder, &new, &old, &kept, is_cut).map_err(Fault::Folder)
+}
+
+/// Makes the unfinished folder of another, which is made if it is not there.
+fn make_unfinished<'a>(
+    rt: &HostRuntime,
+    folder: &'a str,
+    keeps_rows: bool,
+    made: &mut Vec<&'a str>,
+) -> Result<Unfinished, Fault> {
+    make_missing(rt, folder, made)?;
+    if keeps_rows {
+        recover(rt, folder)?;
+    }
+    Unfinished::make(rt, folder, '/', &is_name)
+}
+
 impl<'a> Place<'a> {
-    /// Takes a folder, which is made if it is not there. Fails while another run has it.
-    pub fn take(rt: &HostRuntime, folder: &'a str) -> Result<Place<'a>, Fault> {
+    /// Takes a folder, which is made if it is not there, to write columns whose rows come behind those in it or instead of them.
+    /// Fails while another run has it.
+    pub fn take(rt: &HostRuntime, folder: &'a str, keeps_rows: bool) -> Result<Place<'a>, Fault> {
         let mut made = Vec::new(rt.alloc());
-        let unfinished = match make_missing(rt, folder, &mut made) {
-            Ok(()) => Unfinished::make(rt, folder, '/', &is_name),
-            Err(fault) => Err(fault),
-        };
+        let unfinished = make_unfinished(rt, folder, keeps_rows, &mut made);
         match unfinished {
             Ok(unfinished) => Ok(Place {
                 folder,
@@ -389,16 +544,17 @@ impl<'a> Place<'a> {
     pub fn write<B: Backend + Drop>(
         &self,
         rt: &HostRuntime,
-        plain: &Plain<B>,
+        before: &Before<B>,
     ) -> Result<(), Fault> {
         let old = Paths::new(rt.alloc(), self.folder)?;
         let new = Paths::new(rt.alloc(), self.unfinished.path())?;
         let kept = Paths::kept(rt.alloc(), self.unfinished.path())?;
-        write_new(rt, &new, &old, plain)?;
+        write_new(rt, &new, &old, before)?;
         for folder in &self.made {
             store_parent(rt, *folder).map_err(Fault::Folder)?;
         }
-        exchange(rt, self.folder, &new, &old, &kept, plain.is_cut()).map_err(Fault::Folder)
+        let is_cut = before.plain.is_cut();
+        exchange(rt, self.folder, &new, &old, &kept, is_cut).map_err(Fault::Folder)
     }
 
     /// Leaves the folder to other runs. What was made for it stays if it was written, or if files are in it.

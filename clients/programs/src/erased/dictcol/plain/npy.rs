@@ -1,13 +1,13 @@
 //! The file `codes.npy`: an array of numbers of four bytes in NumPy's format 1.0.
 
-//~ ghost use Rattle.std.specs.Prelude.{◌≡◌, ℕ, ◌*◌, ◌^◌, ◌<◌, [], ◌++◌, List, All, length, IfOk, IfErr, OnOk};
+//~ ghost use Rattle.std.specs.Prelude.{◌≡◌, ℕ, ◌+◌, ◌*◌, ◌/◌, ◌^◌, ◌<◌, [], ◌++◌, List, All, length, IfOk, IfErr, OnOk};
 //~ ghost use Rattle.std.specs.List.{flat_map};
 //~ ghost use Rattle.dictcol.specs.Fault.{IsArrayDamage};
-//~ ghost use Rattle.dictcol.specs.Plain.{code_bytes, npy_header, AreNumbers, IsArrayFault, IsNotALine, IsNpy, IsNumbersFault};
+//~ ghost use Rattle.dictcol.specs.Plain.{code_bytes, npy_header, AreNumbers, IsArrayFault, IsHeaderFault, IsNotALine, IsNpy, IsNumbersFault};
 //~ ghost use Rattle.dictcol.specs.Writes.{Writes};
 
-use crate::rt::prelude::*; use crate::dictcol::block_writer::BlockWriter;
-use crate::dictcol::fault::Fault;
+use crate::rt::prelude::*; use crate::dictcol::fault::Fault;
+use crate::dictcol::output::block_writer::BlockWriter;
 use crate::itoa::Buffer;
 use crate::memchr::memmem;
 use crate::rt::alloc::{AllocError, Global};
@@ -32,19 +32,22 @@ pub fn format_header(alloc: Global, count: usize) -> Result<Vec<u8>, AllocError>
     Ok(header)
 }
 
-/// Writes a file of numbers through an empty block: its header, and the numbers.
+/// Writes a file of numbers through an empty block: its header, earlier numbers, which are four bytes each, and the others.
 pub fn write_file<W: Write>(
     block: &mut BlockWriter,
     output: &mut W,
     header: &[u8],
+    earlier: &[u8],
     numbers: &[u32],
 ) -> io::Result<()>
     //~ requires empty { block.old ≡ [] }
-    //~ requires header { header.now ≡ npy_header (length numbers.now) }
-    //~ ensures { OnOk result
-    //~     (Writes (IsNpy numbers.now) (W.contents output.old) (W.contents output.new)) }
+    //~ requires header { header.now ≡ npy_header (length numbers.now + length earlier.now / 4) }
+    //~ requires fits { length numbers.now + length earlier.now / 4 < 2 ^ 64 }
+    //~ ensures { (limit : ℕ) (front : List ℕ) → AreNumbers limit front earlier.now → OnOk result
+    //~     (Writes (IsNpy (front ++ numbers.now)) (W.contents output.old) (W.contents output.new)) }
 {
     block.append(output, header)?;
+    block.append(output, earlier)?;
     for number in numbers {
         block.append(output, &number.to_le_bytes())?;
     }
@@ -71,6 +74,22 @@ fn find_fault(header: &[u8]) -> Fault
     Fault::OtherLength
 }
 
+/// Returns how many numbers stand behind a header, by its bytes and how many are behind them, or finds what is wrong with it.
+pub fn count_numbers(alloc: Global, header: &[u8], behind: usize) -> Result<usize, Fault>
+    //~ requires { length header.now ≡ 128 }
+    //~ ensures ok { IfOk result (λ count. (header.now ≡ npy_header count) × (behind ≡ 4 * count)) }
+    //~ ensures err { IfErr result (IsHeaderFault header.now behind) }
+{
+    let count = behind / 4;
+    let Ok(right) = format_header(alloc, count) else {
+        return Err(Fault::Memory);
+    };
+    if behind % 4 != 0 || header != right.as_slice() {
+        return Err(find_fault(header));
+    }
+    Ok(count)
+}
+
 /// Returns what stands behind the header of a file, or finds what is wrong with the header.
 fn split_header(alloc: Global, file: &[u8]) -> Result<&[u8], Fault>
     //~ ensures ok { IfOk result (λ numbers. (count : ℕ) × (file.now ≡ npy_header count ++ numbers.now)
@@ -80,13 +99,7 @@ fn split_header(alloc: Global, file: &[u8]) -> Result<&[u8], Fault>
     let Some((header, numbers)) = file.split_at_checked(HEADER) else {
         return Err(Fault::NotNpy);
     };
-    let count = numbers.len() / 4;
-    let Ok(right) = format_header(alloc, count) else {
-        return Err(Fault::Memory);
-    };
-    if numbers.len() % 4 != 0 || header != right.as_slice() {
-        return Err(find_fault(header));
-    }
+    let _ = count_numbers(alloc, header, numbers.len())?;
     Ok(numbers)
 }
 

@@ -14,6 +14,11 @@ fn add(checksum: u64, number: u32) -> u64 {
     (checksum ^ u64::from(number)).wrapping_mul(FACTOR)
 }
 
+/// Returns what stands before the checksum.
+pub fn format_counts(alloc: Global, lines: usize, numbers: usize) -> Result<String, Fault> {
+    crate::rt::format!(in alloc; "lines {lines}\nnumbers {numbers}\nchecksum ").map_err(|_| Fault::Memory)
+}
+
 /// Returns the lines about the dictionary and the numbers.
 fn format(alloc: Global, lines: usize, numbers: usize, checksum: u64) -> Result<String, Fault> {
     crate::rt::format!(in alloc; "lines {lines}\nnumbers {numbers}\nchecksum {checksum}\n").map_err(
@@ -30,30 +35,37 @@ pub fn end_line(is_cut: bool) -> &'static str {
     }
 }
 
-/// Returns the text of the file for a dictionary of so many lines, these numbers, and a text whose last line has no newline or
-/// has one.
-pub fn format_numbers(
-    alloc: Global,
-    lines: usize,
-    numbers: &[u32],
-    is_cut: bool,
-) -> Result<String, Fault> {
-    let mut checksum = START;
-    for number in numbers {
-        checksum = add(checksum, *number);
-    }
-    let mut text = format(alloc, lines, numbers.len(), checksum)?;
-    text.push_str(end_line(is_cut)).map_err(|_| Fault::Memory)?;
-    Ok(text)
-}
-
-/// Returns the lines about a dictionary of so many lines and the numbers that these bytes are, four each.
-pub fn format_bytes(alloc: Global, lines: usize, bytes: &[u8]) -> Result<String, Fault> {
+/// Returns the checksum of the numbers that these bytes are, four each.
+fn checksum_of(bytes: &[u8]) -> u64 {
     let mut checksum = START;
     for number in bytes.chunks_exact(4) {
         if let Some(number) = number.first_chunk::<4>() {
             checksum = add(checksum, u32::from_le_bytes(*number));
         }
     }
-    format(alloc, lines, bytes.len() / 4, checksum)
+    checksum
+}
+
+/// Returns the text of the file for a dictionary of so many lines, the numbers that some bytes are, four each, and those behind
+/// them, and a text whose last line has no newline or has one.
+pub fn format_numbers(
+    alloc: Global,
+    lines: usize,
+    earlier: &[u8],
+    numbers: &[u32],
+    is_cut: bool,
+) -> Result<String, Fault> {
+    let mut checksum = checksum_of(earlier);
+    for number in numbers {
+        checksum = add(checksum, *number);
+    }
+    let count = (earlier.len() / 4).saturating_add(numbers.len());
+    let mut text = format(alloc, lines, count, checksum)?;
+    text.push_str(end_line(is_cut)).map_err(|_| Fault::Memory)?;
+    Ok(text)
+}
+
+/// Returns the lines about a dictionary of so many lines and the numbers that these bytes are, four each.
+pub fn format_bytes(alloc: Global, lines: usize, bytes: &[u8]) -> Result<String, Fault> {
+    format(alloc, lines, bytes.len() / 4, checksum_of(bytes))
 }

@@ -8,7 +8,7 @@
 //~ ghost use Rattle.dictcol.specs.Plain.{plain_text, AreRows};
 
 use crate::rt::prelude::*; use crate::dictcol::fault::Fault;
-use crate::dictcol::json_form::file::write;
+use crate::dictcol::output::write;
 use crate::rt::io;
 use crate::rt::io::Write;
 

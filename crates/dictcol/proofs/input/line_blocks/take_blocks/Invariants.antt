@@ -9,5 +9,5 @@ abbrev pub invariant-loop-line : goal.invariant-loop-line
 invariant-loop-line g l = record {
   waits : Waits g.T.Taker.has_taken l.fn.taker l.taker (take l.len l.block) l.line-iterator (slice_split is_newline l.text);
   room : (l.len < 256) × (length l.block ≡ 256);
-  same : g.T.Taker.written l.taker ≡ g.T.Taker.written l.fn.taker;
+  same : g.T.Taker.kept l.taker ≡ g.T.Taker.kept l.fn.taker;
 }

@@ -1,0 +1,14 @@
+use Rattle.std.proofs.Common.{◌≡◌, List, ◌++◌}
+use Rattle.std.specs.List.{slice_split}
+use Rattle.string_interner.specs.Text.{Text}
+use Rattle.dictcol.specs.Get.{HasSought}
+use Rattle.dictcol.specs.Lines.{is_newline}
+use Rattle.dictcol.proofs.plain.find.SoughtTakesLines.take_lines.Given as goal
+
+-- the lines so far were looked at, and those ahead are the others; the texts are as they were
+abbrev pub invariant-loop-line : goal.invariant-loop-line
+invariant-loop-line g l = record {
+  taken : (front : List Text) × ((lines : List Text) → HasSought l.fn.self lines → HasSought l.self (lines ++ front)) × (front ++ l.line-iterator ≡ slice_split is_newline l.text);
+  texts : l.self.texts ≡ l.fn.self.texts;
+  codes : l.self.codes ≡ l.fn.self.codes;
+}
