@@ -16,13 +16,13 @@ ATTACK = 'rustc --edition 2021 -O -o "$0/attacks" tools/tests/attacks.rs && "$0/
 CLIENTS = ("clients/check", "--what-is-there", "--once")
 # What a part counted, as it prints it.
 COUNT = re.compile(r"^(\d+) passed, (\d+) failed$", re.M)
-# What the commands of the gate take on 4 processors: time, and memory.
+# What the commands of the gate take on 4 processors, idle ones and shared ones: time, and memory.
 TAKES = {
-    "./check tests": ("5 to 10 minutes", "5 GiB"),
-    "./check": ("20 to 40 minutes", "9 GiB"),
+    "./check tests": ("5 to 20 minutes", "5 GiB"),
+    "./check": ("25 to 110 minutes", "9 GiB"),
     "./check quick": ("1 to 30 minutes", "6 GiB"),
-    "./check edits": ("1 to 60 minutes", "6 GiB"),
-    "./check all": ("1.5 to 2.5 hours", "9 GiB"),
+    "./check edits": ("1 to 100 minutes", "6 GiB"),
+    "./check all": ("2.5 to 6 hours", "9 GiB"),
 }
 END = "== what it took"
 COMMAND = "./check all"

@@ -135,6 +135,21 @@ def build_library(crate: Any, record: Path, words: list[str]) -> None:
         kept.write_bytes(stamp)
 
 
+def build_libraries_below(name: str, tree: Path) -> None:
+    """Builds what a crate of a copy stands on, from its records, as if `rt` had built it there. What no record fits is left to `rt`, and so
+    are libraries above it."""
+    known: dict[str, Any] = {}
+    for it in toolchain().Crate(f"{tree}/crates/{name}", str(tree), known).below():
+        record = folder_of_records() / it.name
+        if it.is_built():
+            continue
+        if stale(it, record):
+            return
+        os.makedirs(Path(it.rlib).parent, exist_ok=True)
+        run_tool(it, "rattle", "build", *words_for(it), "--crate-checked", str(record), "-o", it.rlib)
+        Path(it.rlib).with_name("stamp").write_text(it.stamp(), encoding="utf-8")
+
+
 def build_crate(name: str, top: Path = TOP) -> int:
     """Builds a crate and what it stands on from their records. Returns the status of this command."""
     if not (top / "records").is_dir() or not folder_of_records(top).is_dir():

@@ -1,9 +1,9 @@
 #!/usr/bin/env python3
 """Prints which planted bugs the changes since the last run can touch, a line each: CRATE NAME
 
-The file tools/bugs-last-run has three lines: the last commit on which each planted bug that the prover must refuse was refused,
-either in that run or in an earlier one with no change since then that touches it; the toolchain's logic; and the last commit on
-which one run tried all of them. A planted bug is touched if something of this has changed since the first commit: its lines, in
+The file tools/bugs-last-run has the toolchain's logic; the last commit on which one run tried all planted bugs that the prover must
+refuse; and for each crate the last commit on which each of its own was refused, either in a run on it or in an earlier one with no
+change since then that touches it. A planted bug is touched if something of this has changed since that commit: its lines, in
 whichever table; the text of its function, and what stands outside functions in the same source; a file that its lines name; a proof
 file of its function; a file of specs/ of its crate or of one below; or, in a source there, the contract of a function, a type or
 a constant, if the bug's function or what stands outside functions beside it has this name. With no such commit, or under another
@@ -75,16 +75,18 @@ def logic() -> str:
     return ask_rt("version").rpartition("logic")[2].strip()
 
 
-def lines_of_runs() -> list[str]:
-    """The lines of tools/bugs-last-run."""
-    return read(TRIED).splitlines() if TRIED.exists() else []
+def runs() -> dict[str, str]:
+    """What tools/bugs-last-run says of the logic, of the run of all planted bugs `at once`, and of each crate."""
+    lines = read(TRIED).splitlines() if TRIED.exists() else []
+    return {name: said for name, _, said in (line.rpartition(" ") for line in lines)}
 
 
-def last_run() -> str | None:
-    """The commit of the last run, or None if there is none to compare with."""
-    commit, kit = [*lines_of_runs(), "", ""][:2]
+def last_run(crate: str) -> str | None:
+    """The commit of the last run over a crate's planted bugs, or None if there is none to compare with."""
+    found = runs()
+    commit = found.get(crate)
     is_there = commit and git("cat-file", "-e", f"{commit}^{{commit}}") is not None
-    return commit if is_there and kit.rpartition("logic")[2].strip() == logic() else None
+    return commit if is_there and found.get("logic") == logic() else None
 
 
 def commit_as_it_stands() -> str | None:
@@ -93,21 +95,21 @@ def commit_as_it_stands() -> str | None:
     return commit.strip() if commit and status == "" else None
 
 
-def note_full_run(commit: str) -> None:
-    """Notes that on this commit one run tried all planted bugs, and each was refused."""
-    write(TRIED, f"{commit}\nlogic {logic()}\nat once {commit}\n")
-
-
-def note_run(commit: str) -> None:
-    """Notes that on this commit each planted bug that changes since the last run touch was refused."""
-    write(TRIED, "".join(f"{line}\n" for line in (commit, f"logic {logic()}", *lines_of_runs()[2:])))
+def note_run(commit: str, *names: str) -> None:
+    """Notes for these crates that on this commit each planted bug that changes since the last run touch was refused; or for `at once`
+    that one run tried all."""
+    found = runs()
+    if found.get("logic") != logic():
+        found = {"at once": found["at once"]} if "at once" in found else {}
+    found |= {"logic": logic(), **dict.fromkeys(names, commit)}
+    write(TRIED, "".join(f"{name} {found[name]}\n" for name in ("logic", "at once", *crates()) if name in found))
 
 
 def touched() -> dict[str, list[str]]:
     """The names of the planted bugs that are touched, for each crate that has any."""
-    commit = last_run()
-    changes = Changes(commit) if commit else None
-    found = {crate: [it.name for it in edits_of(crate) if not changes or changes.touch(it)] for crate in crates()}
+    last = {crate: last_run(crate) for crate in crates()}
+    changes = {commit: Changes(commit) for commit in {*last.values()} if commit}
+    found = {crate: [it.name for it in edits_of(crate) if not commit or changes[commit].touch(it)] for crate, commit in last.items()}
     return {crate: names for crate, names in found.items() if names}
 
 

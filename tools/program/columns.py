@@ -651,6 +651,20 @@ def try_killed_appenders(program, old):
         yield f"{name}, rows", files_in("it") in map(columns_of, behind), True
 
 
+def try_left_numbers(program):
+    """Numbers that a run left are no rows unless they are of the columns in place: a first run may be killed while it removes its files,
+    and the dictionary may be one of somebody's own."""
+    numbers, others = columns_of(FIRST)["codes.npy"], columns_of(SECOND)
+    missing = failed(1, b"it: cannot read codes.npy: " + told(errno.ENOENT) + b" (see --onto-dictionary)")
+    for names, left in itertools.product(([], ["dict.txt"], ["dict.txt", "pair.txt"]), (numbers, numbers[:-2])):
+        files = {name: others[name] for name in names}
+        with own_folder():
+            write_files("it", files)
+            write_files(f"it/{UNFINISHED}", {"codes.npy": left})
+            yield f"an append to {names}", program.run(APPEND, THIRD), missing if names else OK
+            yield f"files of an append to {names}", read_folder(), files or columns_of(THIRD)
+
+
 def end_early(run, number):
     """How a run ends by one of these signals, and how it must."""
     by = ENDING[number % len(ENDING)]
@@ -886,7 +900,7 @@ def try_refused(program):
     """Each request for memory is refused in turn: the folder has the files from before, those of the run, or no numbers."""
     old, new = columns_of(LINES), columns_of(b"blue\ngreen")
     for words in (b"encode --plain it".split(), b"encode --onto it --plain it".split(), b"decode it".split(),
-                  b"get it red green".split(), b"get --check it green".split()):
+                  b"get it red green".split(), b"get --check it green".split(), b"get it --rows ..".split()):
         wanted = new if b"--onto" not in words else columns_of(b"blue\ngreen", LINES.split(b"\n")[:-1])
         for number in itertools.count(1):
             for path in Path().glob("it/*"):

@@ -10,7 +10,7 @@ import resource
 import subprocess
 from itertools import chain, count, product
 
-from program import closed_streams, columns, distinct, get, pairs, shards, shell
+from program import closed_streams, columns, distinct, folders, get, pairs, shards, shell
 from program.cases import MANY, MEBIBYTE, cases, rows
 from program.expected import MEMORY, answer, failed, is_sorted, misused, unreadable, unwritable, value_of, warned
 from program.requests import OUTPUT_BUFFER, asks_of_lines
@@ -27,7 +27,7 @@ def file_of(texts, numbers):
 
 
 VALUED = b"--backend", b"--invalid", b"--plain", b"--onto", b"--onto-dictionary", b"--files0-from", b"--top", b"--at-least",\
-    b"--field", b"-f", b"--separator", b"-t"
+    b"--field", b"-f", b"--separator", b"-t", b"--rows"
 
 
 def operands(words):
@@ -373,7 +373,7 @@ def parts():
         "cases": cases(CASES, try_case),
         "tables": rows(CASES, TABLES),
         "streams": [*STREAMS.trials(), *shell.trials(), *closed_streams.trials(), *distinct.trials(), *pairs.trials()],
-        "columns": [*columns.trials(), *get.trials()],
+        "columns": [*columns.trials(), *get.trials(), *folders.trials()],
         "shards": shards.trials(),
         "random": [(trial, seed) for trial in (try_random_lines, shell.try_random_bytes) for seed in range(200)],
         # Made as they are run: what this process holds counts for the programs that it starts.

@@ -215,6 +215,25 @@ def try_terminal(program):
             yield f"{words} to a terminal", read_terminal(program, words, given, stdout=True, stderr=True), wanted
 
 
+def try_terminal_share(program):
+    """On a terminal is told how much was read of files with known sizes: each tenth, but not more often than each 256 MiB."""
+    piece = (b"a" * (2**16 - 1) + b"\n") * 2**8
+    with own_folder():
+        for name, count in ("long", 32), ("short", 4):
+            with open(name, "wb") as file:
+                file.writelines([piece] * count)
+        told_of = b"dictcol: 256 MiB read, 44%\ndictcol: 512 MiB read, 88%\n"
+        for words, shares in ([b"long", b"short"], told_of), ([b"short", b"short"], b""):
+            total = sum(os.path.getsize(it) for it in words) >> 20
+            shown = read_terminal(program, [b"count", *words], subprocess.DEVNULL, stdout=False, stderr=True)
+            yield f"{words}", shown, (0, shares + b"dictcol: %d MiB read\ndictcol: %d MiB done\n" % (total, total))
+        with open("long", "rb") as given:
+            shown = read_terminal(program, [b"count"], given, stdout=False, stderr=True)
+        yield "standard input has no size", shown, (0, b"dictcol: 512 MiB read\ndictcol: 512 MiB done\n")
+        ended = program.run([b"count", b"long"])
+        yield "nothing is told on no terminal", (ended.status, ended.error), (0, b"")
+
+
 def try_terminal_as_a_file(program):
     """A terminal that is a file is read, and does not become that of the run: what stops a run of a terminal ends none of others."""
     ours, theirs = pty.openpty()
@@ -630,11 +649,10 @@ def try_long_names(program):
 
 
 def try_folders(program):
-    """In the place of a file, a folder that encode --plain wrote is told as one."""
+    """Where no lines are read, a folder that encode --plain wrote is told as one."""
     yield "a folder", program.run(b"encode --plain it".split(), b"red\n"), (0, b"", b"")
     wanted = failed(1, b"it: a folder that encode --plain wrote; decode writes its text")
-    for words in (b"merge it", b"merge - it", b"count --encoded it", b"count it", b"encode it", b"shard 2 new it",
-                  b"encode --plain new it", b"count --files0-from=it"):
+    for words in b"merge it", b"merge - it", b"count --encoded it", b"count --files0-from=it":
         yield f"{words}", program.run(words.split(), answer([b"encode"], b"a\n")[1]), wanted
     yield "decoded", program.run(b"decode it".split()), (0, b"red\n", b"")
 
@@ -718,4 +736,4 @@ def trials():
 
 
 def long_trials():
-    return [(try_many_lines,), (try_long_lines,), (try_terminal,), (try_long_list,)]
+    return [(try_many_lines,), (try_long_lines,), (try_terminal,), (try_terminal_share,), (try_long_list,)]

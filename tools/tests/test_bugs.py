@@ -253,37 +253,43 @@ class FullRunTest(SmallRepository):
             patch.start()
             self.addCleanup(patch.stop)
 
-    def test_after_a_full_run_nothing_is_touched(self):
-        touched.note_full_run(self.commit)
+    def written(self):
+        return (self.top / "tried").read_text(encoding="utf-8")
+
+    def test_after_a_run_over_each_crate_nothing_is_touched(self):
+        touched.note_run(self.commit, "low", "high")
         self.assertEqual(touched.touched(), {})
 
     def test_a_run_is_what_the_next_one_begins_from(self):
-        touched.note_full_run("0" * 40)
-        touched.note_run(self.commit)
+        touched.note_run("0" * 40, "low", "high")
+        touched.note_run(self.commit, "low", "high")
         self.assertEqual(touched.touched(), {})
         self.write("crates/low/proofs/double/Answers.antt", "")
         self.assertEqual(touched.touched(), {"low": ["doubles_once"]})
 
-    def test_a_run_keeps_the_last_full_one(self):
-        touched.note_full_run("0" * 40)
-        touched.note_run(self.commit)
-        self.assertEqual((self.top / "tried").read_text(encoding="utf-8"), f"{self.commit}\nlogic 1f\nat once {'0' * 40}\n")
+    def test_a_run_over_a_crate_is_none_over_another(self):
+        touched.note_run(self.commit, "low")
+        self.assertEqual(touched.touched(), {"high": ["doubles_instead"]})
 
-    def test_without_a_full_run_all_are_touched(self):
+    def test_a_run_keeps_what_is_said_of_others(self):
+        touched.note_run("0" * 40, "at once", "high")
+        touched.note_run(self.commit, "low")
+        self.assertEqual(self.written(), f"logic 1f\nat once {'0' * 40}\nlow {self.commit}\nhigh {'0' * 40}\n")
+
+    def test_without_a_run_all_are_touched(self):
         self.assertEqual(touched.touched(), self.ALL)
 
     def test_with_a_commit_that_is_gone_all_are_touched(self):
-        touched.note_full_run("0" * 40)
+        touched.note_run("0" * 40, "low", "high")
         self.assertEqual(touched.touched(), self.ALL)
 
     def test_under_another_logic_all_are_touched(self):
-        touched.note_full_run(self.commit)
+        touched.note_run(self.commit, "at once", "low", "high")
         with mock.patch.object(touched, "logic", lambda: "2f"):
             self.assertEqual(touched.touched(), self.ALL)
-
-    def test_under_another_kit_of_that_logic_nothing_is_touched(self):
-        self.write("tried", f"{self.commit}\nkit 1 logic 1f\n")
-        self.assertEqual(touched.touched(), {})
+            touched.note_run(self.commit, "low")
+            self.assertEqual(touched.touched(), {"high": ["doubles_instead"]})
+        self.assertEqual(self.written(), f"logic 2f\nat once {self.commit}\nlow {self.commit}\n")
 
     def test_a_commit_as_it_stands(self):
         self.assertEqual(touched.commit_as_it_stands(), self.commit)

@@ -7,6 +7,7 @@ from unittest import mock
 
 from small import SmallRepository
 import documents
+from gate_log import TAKES
 
 README = """\
 # Small things
@@ -206,6 +207,6 @@ class TimesTest(unittest.TestCase):
     def test_the_front_page_has_what_the_gate_prints(self):
         page = (Path(__file__).parents[2] / "README.md").read_text(encoding="utf-8")
         self.assertEqual(list(documents.other_times(page)), [])
-        for old, new in ("| 20 to 40 minutes |", "| 20 to 30 minutes |"), ("| 5 GiB |", "| 4 GiB |"), ("`./check quick`", "`./check fast`"):
+        for old, new in (f"| {TAKES['./check'][0]} |", "| a minute |"), ("| 5 GiB |", "| 4 GiB |"), ("`./check quick`", "`./check fast`"):
             self.assertIn(old, page)
             self.assertEqual(len(list(documents.other_times(page.replace(old, new)))), 1, old)

@@ -13,8 +13,28 @@ pub(crate) use {rattle_eprintln as eprintln, rattle_format as format, rattle_vec
 
 /// What each module of Rattle has without an import.
 pub mod prelude {
+    pub use super::Dedup;
     pub use super::host::HostRuntime;
     pub use string_interner::__parts::rt::prelude::*;
+}
+
+/// What a list has in Rattle's std, and the crate for Rust does not need.
+pub trait Dedup {
+    /// Keeps the first of equal items that stand side by side.
+    fn dedup(&mut self);
+}
+
+impl<T: Copy + PartialEq> Dedup for vec::Vec<T> {
+    fn dedup(&mut self) {
+        let mut kept = 0;
+        for at in 0..self.len() {
+            if kept == 0 || self[kept - 1] != self[at] {
+                self[kept] = self[at];
+                kept += 1;
+            }
+        }
+        self.truncate(kept);
+    }
 }
 
 pub mod os {

@@ -1,5 +1,5 @@
 -- Laws of files, for whoever doubts the definitions.
-use Rattle.std.proofs.Common.{◌≡◌, ◌==◌, ◌⊎◌, ◌<◌, ℕ, Bool, List, [], ◌∷◌, ◌++◌, length, Some, inl, inr, sym, ap, ap₂, subst, ◌∙◌, arith}
+use Rattle.std.proofs.Common.{◌≡◌, ◌==◌, ◌⊎◌, ◌<◌, ℕ, Bool, List, [], ◌∷◌, ◌++◌, length, map, Some, inl, inr, sym, ap, ap₂, subst, ◌∙◌, arith}
 use Rattle.std.specs.Prelude.{slice_get, slice_index_or}
 use Rattle.std.specs.List.{filter}
 use Rattle.std.proofs.lemmas.List.{append_assoc, length-append, map-append}
@@ -11,12 +11,15 @@ use Rattle.string_column.proofs.Lemmas.AreNumbered.{slice_get-append}
 use Rattle.string_column.proofs.Lemmas.Rows.{codes-within, rows-are}
 use Rattle.dictcol.specs.Counts.{counted}
 use Rattle.dictcol.specs.Lines.{lines_of}
-use Rattle.dictcol.specs.Fault.{IsNotUtf8, IsWriteFault, OfDictionary}
+use Rattle.dictcol.specs.Fault.{IsNotUtf8, OfDictionary}
 use Rattle.dictcol.specs.Plain.{plain_text, text_behind, IsDictionary, IsPlain, IsPlainFault, HoldPlain}
 use Rattle.dictcol.specs.File.{HoldsText, IsColumnFile, DecodesFile}
 use Rattle.dictcol.specs.declared.fault.Fault.{Fault}
 use Rattle.dictcol.specs.declared.fault.Fault.TheVariants.{Memory}
 use Rattle.dictcol.specs.Shards.{shard_of, shard_lines}
+use Rattle.dictcol.specs.Field.{field_of, fields_text}
+use Rattle.dictcol.specs.declared.input.field.Field.{Field}
+use Rattle.dictcol.proofs.FieldsText.{fields-lines}
 use Rattle.dictcol.proofs.HoldsLines.{holds-once, comes-back}
 use Rattle.dictcol.proofs.ShardCounts.{counted-passed}
 use Rattle.dictcol.proofs.PlainColumns.{all-both, file-lines, plain-behind, rows-longer, same-numbers}
@@ -103,14 +106,13 @@ shard-counts code count shard lines = counted-passed (λ line. shard_of code cou
 
 -- Plain columns that hold a text are never called damaged.
 pub plain-undamaged : (dictionary numbers text : Text) (is_cut : Bool) (fault : Fault) → HoldPlain dictionary numbers is_cut text → IsPlainFault dictionary numbers fault
-    → OfDictionary (IsNotUtf8 0 (Some dictionary)) fault ⊎ ((fault ≡ Memory) ⊎ IsWriteFault fault)
+    → OfDictionary (IsNotUtf8 0 (Some dictionary)) fault ⊎ (fault ≡ Memory)
 plain-undamaged dictionary numbers text is_cut fault holds (inl (inl bad)) = inl bad
-plain-undamaged dictionary numbers text is_cut fault holds (inl (inr (inl memory))) = inr (inl memory)
+plain-undamaged dictionary numbers text is_cut fault holds (inl (inr (inl memory))) = inr memory
 plain-undamaged dictionary numbers text is_cut fault holds (inl (inr (inr cut))) = absurd (cut.1 holds.lines holds.lines_are)
-plain-undamaged dictionary numbers text is_cut fault holds (inr (inr writing)) = inr (inr writing)
-plain-undamaged dictionary numbers text is_cut fault holds (inr (inl (lines, is, inl (inl memory)))) = inr (inl memory)
-plain-undamaged dictionary numbers text is_cut fault holds (inr (inl (lines, is, inl (inr damage)))) = absurd (damage.1 holds.codes_are holds.numbers_are)
-plain-undamaged dictionary numbers text is_cut fault holds (inr (inl (lines, is, inr (codes, npy, (index, told, outside))))) =
+plain-undamaged dictionary numbers text is_cut fault holds (inr (lines, is, inl (inl memory))) = inr memory
+plain-undamaged dictionary numbers text is_cut fault holds (inr (lines, is, inl (inr damage))) = absurd (damage.1 holds.codes_are holds.numbers_are)
+plain-undamaged dictionary numbers text is_cut fault holds (inr (lines, is, inr (codes, npy, (index, told, outside)))) =
     let same = same-numbers holds.codes_are codes numbers holds.numbers_are npy in
     let read : slice_get holds.codes_are index ≡ Some outside.code = ap (λ ns. slice_get ns index) same ∙ outside.stands in
     let within = slice_get_within holds.codes_are index outside.code read in
@@ -119,3 +121,7 @@ plain-undamaged dictionary numbers text is_cut fault holds (inr (inl (lines, is,
     let above = outside.outside in
     let below = holds.within index 0 within in
     absurd (omega (arith, code, count, above, below))
+
+-- What is read of one field of each line has these fields as its lines.
+pub fields-are-lines : (field : Field) (text : Text) → lines_of (fields_text field text) ≡ map (field_of field) (lines_of text)
+fields-are-lines = fields-lines

@@ -30,8 +30,16 @@ pub mod Places
 pub mod PlainColumns
 pub mod IsRepeat
 pub mod LineBounds
+pub mod Excerpt
 pub mod AreRows
 pub mod Sought
 pub mod Sharded
 pub mod ShardCounts
 pub mod LetterBegin
+pub mod HeldRows
+pub mod Picks
+pub mod FieldsText
+pub mod AreWhole
+pub mod Utf8Lossy
+pub mod WholeLines
+pub mod MendedLeft

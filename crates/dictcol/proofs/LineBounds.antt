@@ -63,12 +63,17 @@ line-behind front (line ∷ lines) (suc code) inside =
     (append_assoc front (ended line) (flat_map ended lines))
     (subst (λ n. IsBetween ((front ++ ended line) ++ flat_map ended lines) (get_or lines code []) (get_or (line_bounds n lines) code 0) (get_or (line_bounds n lines) (suc code) 0)) long more)
 
--- the line with a number
+-- the line with a number, among lines of which each has a newline behind it
+pub ended-between : (lines : List Text) (text : Text) (code : ℕ) → text ≡ flat_map ended lines → code < length lines
+    → IsBetween text (get_or lines code []) (get_or (line_bounds 0 lines) code 0) (get_or (line_bounds 0 lines) (code + 1) 0)
+ended-between lines text code is inside =
+    subst (λ n. IsBetween text (get_or lines code []) (get_or (line_bounds 0 lines) code 0) (get_or (line_bounds 0 lines) n 0)) (sym (add-one code))
+    (subst (λ t. IsBetween t (get_or lines code []) (get_or (line_bounds 0 lines) code 0) (get_or (line_bounds 0 lines) (suc code) 0)) (sym is) (line-behind [] lines code inside))
+
+-- and in a file of lines
 pub line-between : (lines : List Text) (file : Text) (code : ℕ) → IsLinesFile lines file → code < length lines
     → IsBetween file (get_or lines code []) (get_or (line_bounds 0 lines) code 0) (get_or (line_bounds 0 lines) (code + 1) 0)
-line-between lines file code is inside =
-    subst (λ n. IsBetween file (get_or lines code []) (get_or (line_bounds 0 lines) code 0) (get_or (line_bounds 0 lines) n 0)) (sym (add-one code))
-    (subst (λ text. IsBetween text (get_or lines code []) (get_or (line_bounds 0 lines) code 0) (get_or (line_bounds 0 lines) (suc code) 0)) (sym (is.text ∙ append-nil (flat_map ended lines))) (line-behind [] lines code inside))
+line-between lines file code is inside = ended-between lines file code (is.text ∙ append-nil (flat_map ended lines)) inside
 
 -- ---- the bounds that were found so far
 

@@ -384,7 +384,7 @@ joined-both (row ∷ next ∷ rows) line lines =
     ap (λ more. row ++ 10 ∷ more) (joined-both (next ∷ rows) line lines)
     ∙ sym (append_assoc row (10 ∷ []) (text_of_ended (next ∷ rows) text)) ∙ sym (append_assoc (ended row) (flat_map ended (next ∷ rows)) text)
 
-plain-both : (rows : List Text) (line : Text) (lines : List Text) (is_cut : Bool) → plain_text (rows ++ line ∷ lines) is_cut ≡ text_of_ended rows (plain_text (line ∷ lines) is_cut)
+pub plain-both : (rows : List Text) (line : Text) (lines : List Text) (is_cut : Bool) → plain_text (rows ++ line ∷ lines) is_cut ≡ text_of_ended rows (plain_text (line ∷ lines) is_cut)
 plain-both rows line lines true = joined-both rows line lines
 plain-both rows line lines false = ended-both rows (line ∷ lines)
 

@@ -7,13 +7,14 @@ use Rattle.std.specs.Io.KnownBytes.{Consumes, IsAtEnd, Keeps}
 use Rattle.std.proofs.KnownBytes.{Consumes-nil, Consumes-trans, Consumes-kept, Consumes-whole}
 use Rattle.std.proofs.lemmas.Option.{same_Some}
 use Rattle.std.proofs.lemmas.Bool.{cases_lt, or_parts}
-use Rattle.std.proofs.lemmas.List.{append-nil, append_assoc, take-append-drop, length-append, length-drop, length-take-le, take-append-le, take_all, take_at, drop_at, drop-drop, drop_more, get_or-drop}
+use Rattle.std.proofs.lemmas.List.{append-nil, append_assoc, take-append-drop, length-append, length-drop, length-take, length-take-le, take-append-le, take_all, take_at, drop_at, drop-drop, drop_more, get_or-drop}
 use Rattle.std.proofs.lemmas.List.Splits.{join_with_byte-slice_split}
 use Rattle.std.proofs.lemmas.List.Sums.{sum_by-append}
 use Rattle.std.proofs.lemmas.List.Folds.{list_any-append}
 use Rattle.memchr.specs.Find.{is_byte, IsLastByte, Nowhere, Passes}
 use Rattle.std.proofs.lemmas.Grind.{flat_map-append}
 use Rattle.std.proofs.lemmas.Str.{IsUtf8-append, IsUtf8-take, IsUtf8-drop, IsUtf8-from_ascii, IsUtf8-nil, IsCharBoundary-before_ascii, IsCharBoundary-from_take}
+use borrow.Rule.Slice.PartMut.{put_mid, post_of}
 use Rattle.string_interner.specs.Text.{Text}
 use Rattle.dictcol.specs.Blocks.{EndsAtNewline, HasRead, IsTextOf, IsTextFault, IsLinesFault}
 use Rattle.dictcol.specs.Fault.{IsBadLine, IsNotUtf8}
@@ -307,6 +308,19 @@ last-some text start at last =
     )
 
 -- ---- what is held
+
+-- a write behind an index keeps the length
+pub length-put : (all part : Text) (at : ℕ) → at ≤ length all → length part ≡ length (take (length all - at) (drop at all)) → length (put_mid at (length all - at) all part) ≡ length all
+length-put all part at within same =
+    omega (
+      arith,
+      length-append (take at all) (part ++ post_of at (length all - at) all),
+      length-append part (post_of at (length all - at) all),
+      length-take-le at all within,
+      length-take (length all - at) (drop at all),
+      length-drop at all,
+      length-drop (length all - at) (drop at all),
+    )
 
 -- of a part that was written at the end of what is held, the first bytes are held
 pub held-more : (all part behind : Text) (end count : ℕ) → end ≤ length all → count ≤ length part → take (end + count) (take end all ++ (part ++ behind)) ≡ take end all ++ take count part

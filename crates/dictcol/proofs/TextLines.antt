@@ -100,7 +100,7 @@ module _ (dictionary : List Text) (plain : list_any has_newline dictionary ≡ f
 
 -- ---- the lines of the text
 
-line-first : (line more : Text) → has_newline line ≡ false → lines_of (line ++ 10 ∷ more) ≡ line ∷ lines_of more
+pub line-first : (line more : Text) → has_newline line ≡ false → lines_of (line ++ 10 ∷ more) ≡ line ∷ lines_of more
 line-first [] more plain = refl
 line-first (b ∷ bs) more plain =
     let parts = or_parts (is_newline b) (has_newline bs) plain in rw (parts.0, line-first bs more parts.1) refl

@@ -18,6 +18,8 @@ use Rattle.dictcol.specs.declared.command.Invocation.TheVariants.{Get, Run}
 use Rattle.dictcol.specs.declared.command.Order.{Order}
 use Rattle.dictcol.specs.declared.command.Order.TheVariants.{Appearance, Frequency, Top}
 use Rattle.dictcol.specs.declared.command.Rows.{Rows}
+use Rattle.dictcol.specs.declared.get.Asked.{Asked}
+use Rattle.dictcol.specs.declared.get.Asked.TheVariants as asked
 use Rattle.dictcol.specs.declared.get.Get.{Get as Got}
 use Rattle.dictcol.specs.declared.input.field.Field.{Field}
 use Rattle.dictcol.specs.declared.reader.Reading.{Reading}
@@ -61,10 +63,15 @@ abbrev pub AreFiles : Given → Files → Type 0
 AreFiles given (Named files) = (given.list ≡ None) × (files ≡ given.files)
 AreFiles given (Listed source) = (path : Bor Text) × (given.list ≡ Some path) × Names path.now source × (given.files.items ≡ [])
 
--- of this folder the numbers of these texts are written, as the words say
+-- the numbers of these texts are asked for, or these rows and no texts
+abbrev pub IsAsked : Given → Asked → Type 0
+IsAsked given (asked.Texts texts) = (given.range ≡ None) × (texts ≡ given.texts)
+IsAsked given (asked.Rows range) = (given.range ≡ Some range) × (given.texts.items ≡ [])
+
+-- of this folder is written what the words say
 pub record IsGet (given : Given) (got : Got) : Type 0 where
   pub folder : given.columns ≡ Some got.folder
-  pub texts : got.texts ≡ given.texts
+  pub asked : IsAsked given got.asked
   pub is_checked : got.is_checked ≡ given.is_checked
 
 -- what all the words ask for

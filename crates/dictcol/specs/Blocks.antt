@@ -1,5 +1,5 @@
 -- Reading lines a block at a time: what is held, what was yielded, and the faults.
--- Cited by `blocks` and `line_blocks`, and by `lines`, `encode`, `count`, `distinct`, `plain` and `shards`.
+-- Cited by `block`, `blocks`, `count`, `distinct`, `encode`, `excerpt`, `find`, `line_blocks`, `lines`, `plain` and `shards`.
 use Rattle.std.specs.Prelude.{◌≡◌, ℕ, ◌+◌, List, [], ◌∷◌, ◌++◌, length, take, drop, ◌⊎◌, false, Option, Some, IfSome, IsUtf8}
 use Rattle.std.specs.Io.KnownBytes.{Consumes}
 use Rattle.std.specs.List.{list_any, slice_split}

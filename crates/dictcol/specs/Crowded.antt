@@ -1,5 +1,5 @@
 -- When the dictionary of a file has too many texts, and how decoding may fail.
--- Cited by `stream`, `file`, `decode` and `merge`.
+-- Cited by `decode`, `file` and `stream`.
 use Rattle.std.specs.Prelude.{◌≡◌, ℕ, ◌-◌, ◌^◌, Option, List, [], ◌∷◌, ◌++◌, map, codes, ◌⊎◌, Some}
 use Rattle.json.specs.Lex.{tokens}
 use Rattle.json.specs.Token.{Token, begin_object, begin_array, key, string as string_token}

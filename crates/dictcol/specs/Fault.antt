@@ -1,6 +1,6 @@
 -- The exit status of each fault, and which faults a step returns.
--- Cited by `Fault`, and by `blocks`, `whole`, `file`, `format`, `stream`, `lines`, `decode`, `encode`, `count`, `distinct`,
--- `line_blocks`, `merge`, `output`, `plain` and `shards`.
+-- Cited by `blocks`, `count`, `decode`, `distinct`, `encode`, `excerpt`, `fault`, `file`, `find`, `format`, `held`, `line_blocks`,
+-- `lines`, `merge`, `npy`, `output`, `plain`, `rows`, `shards`, `stream` and `whole`.
 use Rattle.std.specs.Prelude.{ℕ, ⊤, ◌≡◌, ◌+◌, ◌-◌, ◌^◌, ◌⊎◌, Option, IfSome, Result, IsOk, IsErrAnd, take, min, count_by}
 use Rattle.std.specs.Str.{IsValidUpTo}
 use Rattle.std.specs.declared.io.Error.{Error}
@@ -11,7 +11,7 @@ use Rattle.string_interner.specs.declared.backend.InternError.{InternError}
 use Rattle.string_interner.specs.declared.backend.InternError.TheVariants.{NoSymbol, Memory as InternMemory}
 use Rattle.dictcol.specs.Lines.{is_newline}
 use Rattle.dictcol.specs.declared.fault.Fault.{Fault}
-use Rattle.dictcol.specs.declared.fault.Fault.TheVariants.{Argument, Input, NotUtf8, Compressed, NotJson, ByteOrderMark, NoDictionary, NotAText, Repeated, HasNewline, NoLines, NotAnIndex, NoFinalNewline, DictionaryNotUtf8, NotNpy, OtherType, OtherOrder, OtherShape, OtherLength, DictionaryFile, NumbersFile, PairFile, CutFile, Folder, NotLeft, TooManyShards, NoKeys, TooMany, Memory, Output, ClosedOutput}
+use Rattle.dictcol.specs.declared.fault.Fault.TheVariants.{Argument, Input, NotUtf8, Compressed, NotJson, ByteOrderMark, NoDictionary, NotAText, Repeated, HasNewline, NoLines, NotAnIndex, NoFinalNewline, DictionaryNotUtf8, NotNpy, OtherType, OtherOrder, OtherShape, OtherLength, DictionaryFile, NumbersFile, PairFile, CutFile, NotZeroEnded, Folder, NotLeft, TooManyShards, NoKeys, TooMany, Memory, Output, ClosedOutput}
 
 -- 2 if the arguments or the input are wrong, 1 if the system failed or there is too much, 141 if the output is closed
 abbrev pub status_of : Fault → ℕ
@@ -122,6 +122,7 @@ IsDamage (DictionaryFile _) = ⊥
 IsDamage (NumbersFile _) = ⊥
 IsDamage (PairFile _) = ⊥
 IsDamage (CutFile _) = ⊥
+IsDamage NotZeroEnded = ⊥
 IsDamage (Folder _) = ⊥
 IsDamage (NotLeft _) = ⊥
 IsDamage (TooManyShards _) = ⊥

@@ -1,5 +1,5 @@
 -- The numbers of texts among lines, and what is written of them.
--- Cited by `find`.
+-- Cited by `dictionary` and `find`.
 use Rattle.std.specs.Prelude.{◌≡◌, ℕ, ◌⊎◌, List, [], ◌∷◌, ◌++◌, length, map, decimal, Option}
 use Rattle.std.specs.List.{flat_map}
 use Rattle.std.specs.Option.{option_map_or}

@@ -1,5 +1,5 @@
 -- The code of a line.
--- Cited by `LineHasher`.
+-- Cited by `hasher`.
 use Rattle.std.specs.Prelude.{ℕ}
 use Rattle.string_interner.specs.Text.{Text}
 use Rattle.string_interner.specs.Hasher.{one_write}

@@ -64,6 +64,14 @@ IsLocated inputs (NotUtf8 line) located =
     × (located.fault ≡ explained inputs.compression (NotUtf8 line)))
 IsLocated inputs other located = (located.source ≡ source_at inputs.sources.now inputs.at) × (located.fault ≡ other)
 
+-- the same file of the same ones is read, and lines are told as before
+abbrev pub StaysAt : Inputs → Inputs → Type 0
+StaysAt old new = (new.sources ≡ old.sources) × (new.at ≡ old.at) × (new.begins ≡ old.begins) × (new.compression ≡ old.compression)
+
+-- what is wrong with a folder, if something is, and else this fault
+abbrev pub caused : Option Fault → Fault → Fault
+caused damage fault = option_map_or (λ other. other) damage fault
+
 -- what may be done about a fault of reading lines
 abbrev pub advice_on_lines : Fault → Text
 advice_on_lines (NotUtf8 line) = codes " (see --invalid)"

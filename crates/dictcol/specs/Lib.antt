@@ -4,12 +4,16 @@ pub mod Compression
 pub mod Counts
 pub mod Crowded
 pub mod Distinct
+pub mod Excerpt
 pub mod Fault
+pub mod Field
 pub mod File
 pub mod Get
 pub mod Hasher
+pub mod Held
 pub mod Inputs
 pub mod Lines
+pub mod Mended
 pub mod Merge
 pub mod Names
 pub mod Places

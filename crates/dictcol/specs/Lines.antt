@@ -1,7 +1,9 @@
 -- The lines of a text, and the text of lines.
--- Cited by `lines`, `file`, `stream`, `merge`, `count`, `distinct`, `blocks` and `line_blocks`.
-use Rattle.std.specs.Prelude.{◌≡◌, ℕ, ◌==◌, List, [], ◌∷◌, ◌++◌, Bool, true, if◌then◌else◌}
-use Rattle.std.specs.List.{list_any, onto_first, join_with_byte, flat_map}
+-- Cited by `block`, `blocks`, `count`, `dictionary`, `distinct`, `file`, `format`, `line_blocks`, `lines`, `mend`, `merge`, `plain`,
+-- `quoted`, `rows`, `shards`, `split` and `stream`.
+use Rattle.std.specs.Prelude.{◌≡◌, ℕ, ◌==◌, List, [], ◌∷◌, ◌++◌, Bool, true, filter, if◌then◌else◌}
+use Rattle.std.specs.List.{list_any, onto_first, join_with_byte, flat_map, concat}
+use Rattle.std.specs.Str.{is_utf8}
 use Rattle.string_interner.specs.Text.{Text}
 
 abbrev pub is_newline : ℕ → Bool
@@ -34,6 +36,15 @@ has_newline text = list_any is_newline text
 abbrev pub lines_of : List ℕ → List (List ℕ)
 lines_of [] = []
 lines_of (b ∷ bs) = if b == 10 then [] ∷ lines_of bs else onto_first b (lines_of bs)
+
+-- the lines of a text, each with the newline that ends it
+abbrev pub whole_lines : Text → List Text
+whole_lines [] = []
+whole_lines (byte ∷ text) = if is_newline byte then (byte ∷ []) ∷ whole_lines text else onto_first byte (whole_lines text)
+
+-- a text without the lines that are not UTF-8
+abbrev pub utf8_lines : Text → Text
+utf8_lines text = concat (filter is_utf8 (whole_lines text))
 
 -- A text has these lines, of which the last ends in a newline or not.
 pub record AreLines (text : Text) (lines : List Text) (is_ended : Bool) : Type 0 where

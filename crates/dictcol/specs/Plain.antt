@@ -1,7 +1,7 @@
 -- Plain columns: the file `dict.txt` has the distinct lines, and `codes.npy` the number of its line there for each line.
--- Cited by `plain`.
-use Rattle.std.specs.Prelude.{◌≡◌, ℕ, ◌+◌, ◌-◌, ◌^◌, ◌<◌, List, [], ◌∷◌, ◌++◌, All, length, replicate, Bool, false, not, ◌&&◌, if◌then◌else◌, nat_lt, codes, decimal, ◌⊎◌, Option, Some, IfSome}
-use Rattle.std.specs.Int.{w32, to_le_bytes}
+-- Cited by `dictionary`, `excerpt`, `held`, `npy`, `plain` and `rows`.
+use Rattle.std.specs.Prelude.{◌≡◌, ℕ, ◌+◌, ◌-◌, ◌^◌, ◌<◌, ◌==◌, List, [], ◌∷◌, ◌++◌, All, length, slice_range, replicate, Bool, false, not, ◌&&◌, if◌then◌else◌, nat_lt, codes, decimal, ◌⊎◌, Option, Some, IfSome}
+use Rattle.std.specs.Int.{w32, from_le_bytes, to_le_bytes}
 use Rattle.std.specs.Io.KnownBytes.{Appends}
 use Rattle.std.specs.List.{list_any, flat_map, join_with_byte}
 use Rattle.string_interner.specs.Text.{Text, IsDistinct}
@@ -11,7 +11,7 @@ use Rattle.string_column.specs.Parts.{IsOutside, IsRepeat}
 use Rattle.dictcol.specs.declared.fault.Fault.{Fault}
 use Rattle.dictcol.specs.declared.fault.Fault.TheVariants.{Memory, NotALine, NotEnded, RepeatedLine}
 use Rattle.dictcol.specs.Blocks.{IsLinesFault}
-use Rattle.dictcol.specs.Fault.{IsArrayDamage, IsNotUtf8, IsWriteFault, OfDictionary}
+use Rattle.dictcol.specs.Fault.{IsArrayDamage, IsNotUtf8, OfDictionary}
 use Rattle.dictcol.specs.File.{HaveEntries}
 use Rattle.dictcol.specs.Lines.{has_newline, lines_of, text_of_ended, AreLines}
 
@@ -148,6 +148,19 @@ pub record AreRows (file : Text) (bounds : List ℕ) (numbers : Text) (rows : Li
   pub numbers_are : AreNumbers (length lines) codes_are numbers
   pub rows_are : rows ≡ rows_of lines codes_are
 
+-- the numbers that bytes are, four each
+abbrev pub codes_in : Text → List ℕ
+codes_in (a ∷ b ∷ c ∷ d ∷ bytes) = from_le_bytes w32 (a ∷ b ∷ c ∷ d ∷ []) ∷ codes_in bytes
+codes_in bytes = []
+
+-- the lines of a file with the numbers that bytes are
+abbrev pub rows_in : Text → Text → List Text
+rows_in file numbers = rows_of (lines_of file) (codes_in numbers)
+
+-- the text of the rows from one on before another one, of which the last has no newline if it is the last of all, and that is cut
+abbrev pub part_text : List Text → Bool → ℕ → ℕ → Text
+part_text rows is_cut start end = plain_text (slice_range rows start end) (is_cut && (end == length rows))
+
 -- the files hold the text: the lines of the first with these numbers, which may be there twice
 pub record HoldPlain (dictionary numbers : Text) (is_cut : Bool) (text : Text) : Type 0 where
   pub lines : List Text
@@ -157,7 +170,7 @@ pub record HoldPlain (dictionary numbers : Text) (is_cut : Bool) (text : Text) :
   pub within : HaveEntries lines codes_are
   pub text_is : text ≡ plain_text (rows_of lines codes_are) is_cut
 
--- The faults of reading the text that both files hold, and writing it. A number is no line if it is not below the count of lines.
+-- The faults of reading the text that both files hold. A number is no line if it is not below the count of lines.
 abbrev pub IsPlainFault : Text → Text → Fault → Type 0
 IsPlainFault dictionary numbers fault =
-    IsBoundsFault dictionary fault ⊎ (((lines : List Text) × IsLinesFile lines dictionary × IsNumbersFault (length lines) numbers fault) ⊎ IsWriteFault fault)
+    IsBoundsFault dictionary fault ⊎ ((lines : List Text) × IsLinesFile lines dictionary × IsNumbersFault (length lines) numbers fault)

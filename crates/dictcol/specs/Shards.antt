@@ -1,5 +1,5 @@
 -- Lines in shards: what the output of each shard gets, and what says how they were mixed.
--- Cited by `shards`.
+-- Cited by `folder` and `shards`.
 use Rattle.std.specs.Prelude.{◌≡◌, ◌%◌, ℕ, ◌==◌, ◌<◌, ◌≤◌, List, [], length, map, decimal, slice_index_or, Option, Some, None, IsSome}
 use Rattle.std.specs.Io.KnownBytes.{append_known}
 use Rattle.std.specs.List.{filter}

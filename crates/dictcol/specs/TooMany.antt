@@ -1,5 +1,6 @@
 -- When lines are too many.
--- Cited by `blocks`, `line_blocks`, `lines`, `encode`, `count`, `distinct`, `merge`, `plain` and `shards`.
+-- Cited by `blocks`, `count`, `dictionary`, `distinct`, `encode`, `excerpt`, `find`, `line_blocks`, `lines`, `merge`, `plain` and
+-- `shards`.
 use Rattle.std.specs.Prelude.{◌≡◌, ◌-◌, ◌^◌, ◌≤◌, List, ◌∷◌, ◌++◌, length, ◌⊎◌}
 use Rattle.string_interner.specs.Text.{Text}
 use Rattle.string_interner.specs.Numbering.{Numbering}

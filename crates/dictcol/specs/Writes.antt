@@ -1,5 +1,5 @@
 -- What a step writes.
--- Cited by `file`, `format`, `encode`, `decode`, `count`, `merge`, `plain` and `block_writer`.
+-- Cited by `block_writer`, `count`, `decode`, `encode`, `file`, `format`, `merge` and `npy`.
 use Rattle.std.specs.Prelude.{ℕ, List, Option}
 use Rattle.std.specs.Io.KnownBytes.{Appends, append_known}
 use Rattle.string_interner.specs.Text.{Text}

@@ -129,8 +129,10 @@ fn separate<'a>(rt: &'a HostRuntime, files: &'a [Source<'a>]) -> Result<Vec<Inpu
 {
     let mut inputs = Vec::new(rt.alloc());
     for at in 0..files.len() {
-        let input = Inputs::new(rt, &files[at..=at], false);
-        inputs.push(input).map_err(|_| Fault::Memory)?;
+        let input = Inputs::new(rt, &files[at..=at]);
+        if inputs.push(input).is_err() {
+            return Err(Fault::Memory);
+        }
     }
     Ok(inputs)
 }
@@ -191,7 +193,7 @@ fn decode_files<'a>(rt: &'a HostRuntime, files: &'a [Source<'a>]) -> Result<(), 
         }
     }
     let hasher = LineHasher::draw(rt)?;
-    let mut input = Inputs::new(rt, files, false);
+    let mut input = Inputs::new(rt, files);
     let mut output = open_output(rt, false).map_err(|fault| input.locate(fault))?;
     let outcome = decode(rt.alloc(), hasher, &mut input, &mut output);
     outcome.map_err(|fault| input.locate(fault))?;

@@ -8,7 +8,6 @@ ghost use Rattle.dictcol.specs.Writes.{Writes};
 
 use crate::fault::Fault;
 use crate::hasher::LineHasher;
-use crate::input::blocks::check_utf8;
 use crate::input::whole::read_whole;
 use crate::json_form::file;
 use std::alloc::Global;
@@ -31,5 +30,5 @@ pub fn decode<R: Read, W: Write>(
     ensures err { IfErr result (IsDecodeFault (R.remaining input.old)) }
 {
     let bytes = read_whole(alloc, input)?;
-    file::decode(alloc, hasher, check_utf8(0, &bytes)?, output)
+    file::decode(alloc, hasher, bytes, output)
 }

@@ -83,6 +83,9 @@ pub enum Fault {
     /// The system does not tell whether `no_final_newline` is there.
     #[error("cannot read no_final_newline: {0}")]
     CutFile(io::Error),
+    /// If its lines are to end in zero bytes.
+    #[error("newlines end the lines of a folder: leave out -z")]
+    NotZeroEnded,
     #[error("cannot write files: {0}")]
     Folder(io::Error),
     /// The character behind DIR in the name of the unfinished folder.

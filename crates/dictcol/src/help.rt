@@ -4,7 +4,7 @@
 pub const HELP: &str = "\
 usage: dictcol encode [--plain DIR [--append|--onto OLD]] [OPTION ..] [FILE ..]
        dictcol decode [FILE | DIR]
-       dictcol get [--check] DIR TEXT ..
+       dictcol get [--check] DIR (TEXT .. | --rows A..B)
        dictcol count [--encoded | -z] [--sorted | --top N] [OPTION ..] [FILE ..]
        dictcol distinct [-z] [OPTION ..] [FILE ..]
        dictcol merge [--backend NAME] FILE ..
@@ -13,7 +13,7 @@ usage: dictcol encode [--plain DIR [--append|--onto OLD]] [OPTION ..] [FILE ..]
 Reads each FILE in turn, or those that --files0-from F names, or standard input.
 encode    writes lines as JSON: the distinct lines, and a number for each line
 decode    writes the lines back, byte for byte
-get       writes the number of each TEXT in DIR/dict.txt, from 0 on
+get       writes the number of each TEXT in DIR/dict.txt, or rows A to B-1
 count     writes how often each distinct line occurs, and the line
 distinct  writes each line where it comes first, and no further time
 merge     writes one file for several that encode wrote, one after another

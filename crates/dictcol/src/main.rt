@@ -158,7 +158,7 @@ fn run_on_listed(
     list: Source<'_>,
 ) -> ExitCode {
     let sources = [list];
-    let bytes = match read_whole(rt.alloc(), &mut Inputs::new(rt, &sources, false)) {
+    let bytes = match read_whole(rt.alloc(), &mut Inputs::new(rt, &sources)) {
         Ok(bytes) => bytes,
         Err(fault) => return end(rt, Err(Located::new(list, fault))),
     };

@@ -297,6 +297,17 @@ impl<R: Read> Read for &mut R {
     }
 }
 
+impl Write for Vec<u8> {
+    fn write(&mut self, bytes: &[u8]) -> Result<usize> {
+        self.extend_from_slice(bytes)?;
+        Ok(bytes.len())
+    }
+
+    fn flush(&mut self) -> Result<()> {
+        Ok(())
+    }
+}
+
 impl<W: Write> Write for &mut W {
     fn write(&mut self, bytes: &[u8]) -> Result<usize> {
         (**self).write(bytes)
@@ -403,23 +414,6 @@ pub fn empty() -> Empty {
 impl Read for Empty {
     fn read(&mut self, _: &mut [u8]) -> Result<usize> {
         Ok(0)
-    }
-}
-
-/// An output that drops what it gets.
-pub struct Sink;
-
-pub fn sink() -> Sink {
-    Sink
-}
-
-impl Write for Sink {
-    fn write(&mut self, bytes: &[u8]) -> Result<usize> {
-        Ok(bytes.len())
-    }
-
-    fn flush(&mut self) -> Result<()> {
-        Ok(())
     }
 }
 

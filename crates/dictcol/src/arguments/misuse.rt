@@ -47,8 +47,12 @@ pub enum Misuse<'a> {
     NoCount(ShownWord<'a>),
     #[error("the DIR of {0} is empty")]
     EmptyFolder(&'static str),
-    #[error("get needs a DIR and a TEXT")]
+    #[error("get needs a DIR, and a TEXT or option '--rows'")]
     NoText,
+    #[error("option '--rows' takes a range like 3..5, and not {0}")]
+    NoRange(ShownWord<'a>),
+    #[error("extra operand {0}: option '--rows' takes no TEXT beside it")]
+    TextBesideRows(ShownWord<'a>),
     #[error("{INPUT_TWICE}")]
     InputTwice,
     /// An allocation failed, which is no fault of the arguments.

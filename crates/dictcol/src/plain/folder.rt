@@ -3,13 +3,17 @@
 //! `codes.npy` is the first file that is taken away and the last that gets its name. So while it is there, the other files are of
 //! its run, and who finds it in its place after opening the others has files of one run.
 
-use super::exchange::{end_left, exchange};
+ghost use Rattle.std.specs.Prelude.{◌+◌, ◌*◌, ◌^◌, ◌<◌, ◌≤◌, IfOk};
+
+use super::excerpt::Excerpt;
+use super::exchange::{end_left, exchange, undo_left};
+use super::held::HeldRows;
 use super::{Plain, find, npy, pair};
 use crate::command::Onto;
 use crate::fault::Fault;
-use crate::get::Get;
+use crate::get::{Get, RowRange};
 use crate::hasher::LineHasher;
-use crate::input::blocks::count_byte;
+use crate::input::blocks::{TakesLines, count_byte};
 use crate::unfinished::{NAME, Unfinished, busy, is_same, is_taken, store, store_parent};
 use memchr::memchr;
 use std::alloc::Global;
@@ -39,6 +43,9 @@ const PRIVATE: u32 = 0o600;
 
 /// What is said of files that are not there so far.
 const WRITING: &str = "another run is writing";
+
+/// So many of its files are open at once while it is read.
+pub const OPEN_AT_ONCE: usize = 3;
 
 /// So many times files are opened that other runs replace meanwhile.
 const TURNS: usize = 16;
@@ -96,6 +103,16 @@ pub fn has_columns(rt: &HostRuntime, path: &str) -> bool {
     match join(rt.alloc(), path, NUMBERS) {
         Ok(numbers) => fs::metadata(rt, numbers.as_str()).is_ok(),
         Err(_) => false,
+    }
+}
+
+/// Returns whether a folder that cannot be read for this reason has no plain columns, nor a part of them.
+pub fn has_none(rt: &HostRuntime, path: &str, fault: &Fault) -> bool {
+    match fault {
+        Fault::DictionaryFile(error) => {
+            error.kind() == ErrorKind::NotFound && !has_columns(rt, path)
+        }
+        _ => false,
     }
 }
 
@@ -224,6 +241,22 @@ impl Files {
         }
     }
 
+    /// Checks that the files are of one run, as far as so many lines and numbers show it, or if that is asked for all numbers.
+    fn check(
+        &mut self,
+        alloc: Global,
+        lines: usize,
+        count: usize,
+        is_whole: bool,
+    ) -> Result<(), Fault> {
+        if !is_whole {
+            return self.check_counts(alloc, lines, count);
+        }
+        let numbers = read(alloc, &mut self.numbers).map_err(Fault::of_numbers)?;
+        let _ = npy::read(alloc, &numbers, lines)?;
+        self.check_pair(alloc, lines, &numbers)
+    }
+
     /// Checks what `pair.txt` says behind the checksum. Earlier versions wrote nothing there.
     fn check_end(&self, end: &[u8]) -> Result<(), Fault> {
         if end.is_empty() || end == pair::end_line(self.is_cut).as_bytes() {
@@ -240,7 +273,9 @@ impl Files {
 }
 
 /// Returns how many numbers a file has, of which only what stands before them is read.
-fn count_numbers(alloc: Global, file: &File) -> Result<usize, Fault> {
+fn count_numbers(alloc: Global, file: &File) -> Result<usize, Fault>
+    ensures { IfOk result (λ count. 128 + 4 * count < 2 ^ 64) }
+{
     let length = file.metadata().map_err(Fault::of_read)?.len() as usize;
     let mut header = [0; npy::HEADER];
     match file.read_exact_at(&mut header, 0) {
@@ -250,12 +285,18 @@ fn count_numbers(alloc: Global, file: &File) -> Result<usize, Fault> {
     }
 }
 
-/// Returns the fault of files that are not of one run, or one that tells what is damaged in them.
-fn find_fault(alloc: Global, dictionary: &[u8], numbers: &[u8], fault: Fault) -> Fault {
-    match super::decode(alloc, dictionary, numbers, false, &mut io::sink()) {
-        Ok(()) => fault,
-        Err(fault) => fault,
-    }
+/// Reads the numbers of the rows that begin and end at these places.
+fn read_codes(alloc: Global, file: &File, start: usize, end: usize) -> Result<Vec<u32>, Fault>
+    requires ordered { start ≤ end }
+    requires fits { 128 + 4 * end < 2 ^ 64 }
+{
+    let Ok(mut bytes) = vec![in alloc; 0_u8; 4 * (end - start)] else {
+        return Err(Fault::Memory);
+    };
+    let place = npy::HEADER + 4 * start;
+    file.read_exact_at(&mut bytes, place as u64)
+        .map_err(Fault::of_read)?;
+    npy::list_numbers(alloc, &bytes)
 }
 
 /// What stands before the rows of a text.
@@ -350,31 +391,49 @@ pub fn find_numbers<B: Backend + Drop>(
     rt: &HostRuntime,
     hasher: LineHasher,
     get: &Get<'_>,
+    texts: &[&str],
 ) -> Result<Vec<Option<usize>>, Fault> {
     let alloc = rt.alloc();
     let mut files = Files::open(rt, get.folder, None)?;
-    let found = find::find_numbers::<B, _>(alloc, hasher, &get.texts, &mut files.dictionary)?;
+    let found = find::find_numbers::<B, _>(alloc, hasher, texts, &mut files.dictionary)?;
     let count = count_numbers(alloc, &files.numbers).map_err(Fault::of_numbers)?;
-    if get.is_checked {
-        let numbers = read(alloc, &mut files.numbers).map_err(Fault::of_numbers)?;
-        let _ = npy::read(alloc, &numbers, found.lines)?;
-        files.check_pair(alloc, found.lines, &numbers)?;
-    } else {
-        files.check_counts(alloc, found.lines, count)?;
-    }
+    files.check(alloc, found.lines, count, get.is_checked)?;
     Ok(found.numbers)
 }
 
-/// Writes the text of a folder.
-pub fn decode<W: Write>(rt: &HostRuntime, folder: &str, output: &mut W) -> Result<(), Fault> {
+/// Writes the lines of some rows of a folder. Reads the numbers of the others only if they are checked.
+pub fn write_rows<W: Write>(
+    rt: &HostRuntime,
+    get: &Get<'_>,
+    range: RowRange,
+    output: &mut W,
+) -> Result<(), Fault> {
+    let alloc = rt.alloc();
+    let mut files = Files::open(rt, get.folder, None)?;
+    let count = count_numbers(alloc, &files.numbers).map_err(Fault::of_numbers)?;
+    let (start, end) = range.within(count);
+    let codes = read_codes(alloc, &files.numbers, start, end).map_err(Fault::of_numbers)?;
+    let excerpt = Excerpt::read(alloc, &mut files.dictionary, start, codes)?;
+    files.check(alloc, excerpt.count_lines(), count, get.is_checked)?;
+    excerpt.write(files.is_cut && end == count, output)
+}
+
+/// Reads the rows that a folder holds.
+pub fn read_held(rt: &HostRuntime, folder: &str) -> Result<HeldRows, Fault> {
     let alloc = rt.alloc();
     let mut files = Files::open(rt, folder, None)?;
     let dictionary = read(alloc, &mut files.dictionary).map_err(Fault::of_dictionary)?;
     let numbers = read(alloc, &mut files.numbers).map_err(Fault::of_numbers)?;
-    match files.check_pair(alloc, count_byte(b'\n', &dictionary), &numbers) {
-        Ok(()) => super::decode(alloc, &dictionary, &numbers, files.is_cut, output),
-        Err(fault) => Err(find_fault(alloc, &dictionary, &numbers, fault)),
-    }
+    let pair = files.check_pair(alloc, count_byte(b'\n', &dictionary), &numbers);
+    // What is damaged in one of the files tells more than that they are not of one run.
+    let rows = HeldRows::new(alloc, dictionary, numbers, files.is_cut)?;
+    pair?;
+    Ok(rows)
+}
+
+/// Writes the text of a folder.
+pub fn decode<W: Write>(rt: &HostRuntime, folder: &str, output: &mut W) -> Result<(), Fault> {
+    read_held(rt, folder)?.write(output)
 }
 
 /// Returns what the system says of a file, if there is one.
@@ -483,13 +542,28 @@ pub struct Place<'a> {
     unfinished: Unfinished,
 }
 
+/// Returns whether the numbers in an unfinished folder are those that the other files in their places are of. So they got these by the
+/// run of the numbers.
+fn has_numbers(rt: &HostRuntime, folder: &str, unfinished: &str) -> Result<bool, Fault> {
+    let alloc = rt.alloc();
+    let mut paths = Paths::new(alloc, folder)?;
+    paths.numbers = join(alloc, unfinished, NUMBERS)?;
+    let Ok(mut files) = Files::open_once(rt, &paths) else {
+        return Ok(false);
+    };
+    let dictionary = read(alloc, &mut files.dictionary).map_err(Fault::of_dictionary)?;
+    let numbers = read(alloc, &mut files.numbers).map_err(Fault::of_numbers)?;
+    let lines = count_byte(b'\n', &dictionary);
+    Ok(files.pair.is_some() && files.check_pair(alloc, lines, &numbers).is_ok())
+}
+
 /// Ends what a killed run left half done in a folder: the numbers of its rows are nowhere else. Another run may be at it now, which
 /// is told when the folder is taken.
 fn recover(rt: &HostRuntime, folder: &str) -> Result<(), Fault> {
     let alloc = rt.alloc();
     let left = join(alloc, folder, NAME)?;
     match fs::symlink_metadata(rt, left.as_str()) {
-        Ok(metadata) if metadata.is_dir() => {}
+        Ok(metadata) if metadata.is_dir() && !has_columns(rt, folder) => {}
         _ => return Ok(()),
     }
     let unfinished = File::open(rt, left.as_str()).map_err(Fault::Folder)?;
@@ -498,12 +572,15 @@ fn recover(rt: &HostRuntime, folder: &str) -> Result<(), Fault> {
     }
     let old = Paths::new(alloc, folder)?;
     let new = Paths::new(alloc, left.as_str())?;
+    if has_numbers(rt, folder, left.as_str())? {
+        return end_left(rt, folder, &new, &old).map_err(Fault::Folder);
+    }
     let kept = Paths::kept(alloc, left.as_str())?;
     let is_cut = match read_pair(rt, old.pair.as_str()).map_err(Fault::of_pair)? {
         Some(pair) => pair.ends_with(pair::end_line(true).as_bytes()),
         None => false,
     };
-    end_left(rt, folder, &new, &old, &kept, is_cut).map_err(Fault::Folder)
+    undo_left(rt, folder, &new, &old, &kept, is_cut).map_err(Fault::Folder)
 }
 
 /// Makes the unfinished folder of another, which is made if it is not there.

@@ -8,6 +8,7 @@ use crate::command::ShardFolder;
 use crate::fault::Fault;
 use crate::located::Located;
 use crate::output::exchanged::Exchanged;
+use crate::plain::folder::{OPEN_AT_ONCE, is_folder};
 use crate::reader::LineReader;
 use crate::source::Source;
 use crate::unfinished::{Unfinished, store};
@@ -94,10 +95,23 @@ fn count_free_files(rt: &HostRuntime, wanted: usize) -> Result<usize, Fault> {
     Ok(free.len())
 }
 
-/// Checks that so many shards can be open at once, with the numbers of their lines, the folder, and the file that is read.
+/// Returns how many files are open beside the shards while this one is read: the numbers of their lines, the folder, and what is read.
+fn count_others(rt: &HostRuntime, file: Source<'_>) -> usize {
+    match file {
+        Source::StandardInput => 2,
+        Source::File(path) if is_folder(rt, path) => 2 + OPEN_AT_ONCE,
+        Source::File(_) => 3,
+    }
+}
+
+/// Checks that so many shards can be open at once, beside the other files.
 fn check_count(rt: &HostRuntime, count: usize, files: &[Source<'_>]) -> Result<(), Fault> {
-    let is_named = files.iter().any(|file| matches!(file, Source::File(_)));
-    let others = 2 + usize::from(is_named);
+    let mut others = 2;
+    for file in files {
+        if others < 2 + OPEN_AT_ONCE {
+            others = others.max(count_others(rt, *file));
+        }
+    }
     let wanted = count.saturating_add(others);
     let free = count_free_files(rt, wanted)?;
     if free < wanted {

@@ -57,7 +57,9 @@ fn write_into<'a, B: Backend + Drop>(
     let rt = lines.rt;
     let mut before = read_before::<B>(rt, hasher, columns, place)?;
     let outcome = before.plain.read(rt.alloc(), hasher, &mut lines.input);
-    outcome.map_err(|fault| lines.locate(fault))?;
+    if let Err(fault) = outcome {
+        return Err(lines.locate(fault));
+    }
     lines.tell_skipped();
     place
         .write(rt, &before)

@@ -8,7 +8,6 @@
 
 use crate::rt::prelude::*; use crate::dictcol::fault::Fault;
 use crate::dictcol::hasher::LineHasher;
-use crate::dictcol::input::blocks::check_utf8;
 use crate::dictcol::input::whole::read_whole;
 use crate::dictcol::json_form::file;
 use crate::rt::alloc::Global;
@@ -31,5 +30,5 @@ pub fn decode<R: Read, W: Write>(
     //~ ensures err { IfErr result (IsDecodeFault (R.remaining input.old)) }
 {
     let bytes = read_whole(alloc, input)?;
-    file::decode(alloc, hasher, check_utf8(0, &bytes)?, output)
+    file::decode(alloc, hasher, bytes, output)
 }

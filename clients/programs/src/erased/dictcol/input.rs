@@ -8,6 +8,7 @@ pub mod field;
 pub mod inputs;
 pub mod line_blocks;
 pub mod mend;
+pub mod ready;
 pub mod split;
 pub mod streams;
 pub mod whole;

@@ -2,9 +2,11 @@
 //! which two of them belong together.
 
 use crate::rt::prelude::*; pub mod dictionary;
+pub mod excerpt;
 pub mod exchange;
 pub mod find;
 pub mod folder;
+pub mod held;
 pub mod npy;
 pub mod pair;
 pub mod rows;
@@ -15,9 +17,8 @@ pub mod rows;
 //~ ghost use Rattle.dictcol.specs.Blocks.{IsLinesFault};
 //~ ghost use Rattle.dictcol.specs.Fault.{IsLinesWriteFault, WritesLast};
 //~ ghost use Rattle.dictcol.specs.Lines.{AreLines};
-//~ ghost use Rattle.dictcol.specs.Plain.{AreNumbers, HoldPlain, IsBegun, IsDictionaryFault, IsOnto, IsPlainFault, WritesPlain};
+//~ ghost use Rattle.dictcol.specs.Plain.{AreNumbers, IsBegun, IsDictionaryFault, IsOnto, WritesPlain};
 //~ ghost use Rattle.dictcol.specs.TooMany.{LacksBehind, LacksLine};
-//~ ghost use Rattle.dictcol.specs.Writes.{Writes};
 
 use crate::dictcol::fault::Fault;
 use crate::dictcol::hasher::LineHasher;
@@ -184,26 +185,4 @@ impl<B: Backend + Drop> Plain<B> {
         npy::write_file(&mut block, numbers, &header, earlier, codes).map_err(Fault::of_write)?;
         Ok(())
     }
-}
-
-/// Writes the text that the two files hold, or finds where they are damaged. Nothing is written of damaged files.
-pub fn decode<W: Write>(
-    alloc: Global,
-    dictionary: &[u8],
-    numbers: &[u8],
-    is_cut: bool,
-    output: &mut W,
-) -> Result<(), Fault>
-    //~ ensures written { OnOk result (Writes (HoldPlain dictionary.now numbers.now is_cut)
-    //~     (W.contents output.old) (W.contents output.new)) }
-
-    // Files that hold a text are never called damaged, and the first is called not UTF-8 only if it is not.
-    //~ ensures err { IfErr result (IsPlainFault dictionary.now numbers.now) }
-
-    // Unless all went well or a write failed, the output was not touched.
-    //~ ensures silent { WritesLast result output.old output.new }
-{
-    let bounds = dictionary::find_bounds(alloc, dictionary)?;
-    let codes = npy::read(alloc, numbers, bounds.len() - 1)?;
-    rows::write_rows(output, dictionary, &bounds, codes, is_cut)
 }

@@ -1,7 +1,7 @@
 //! The lines of some files, and what is told of them on standard error.
 
 //~ ghost use Rattle.std.specs.Prelude.{◌≡◌};
-//~ ghost use Rattle.dictcol.specs.Inputs.{IsLocated, advice_on_lines};
+//~ ghost use Rattle.dictcol.specs.Inputs.{advice_on_lines, caused, IsLocated, StaysAt};
 
 use crate::rt::prelude::*; use crate::dictcol::fault::Fault;
 use crate::dictcol::input::field::{Field, Picked};
@@ -48,7 +48,7 @@ impl<'a> LineReader<'a> {
     /// Returns the reader of these files, none of which is open yet.
     pub fn new(rt: &'a HostRuntime, reading: Reading, files: &'a [Source<'a>]) -> LineReader<'a> {
         let is_zero_ended = reading.is_zero_ended;
-        let picked = Picked::new(Inputs::new(rt, files, is_zero_ended), reading.field);
+        let picked = Picked::new(Inputs::of_lines(rt, files, is_zero_ended), reading.field);
         LineReader {
             rt,
             is_zero_ended,
@@ -65,7 +65,7 @@ impl<'a> LineReader<'a> {
 
     /// Returns standard output, in which lines end as in the files.
     pub fn open_output(&self) -> Result<BufWriter<Exchanged<Stdout>>, Located<'a>> {
-        open_output(self.rt, self.is_zero_ended).map_err(|fault| self.locate(fault))
+        open_output(self.rt, self.is_zero_ended).map_err(|fault| self.inputs().locate(fault))
     }
 
     /// Tells on standard error how many lines were left out.
@@ -100,11 +100,16 @@ impl<'a> LineReader<'a> {
     }
 
     /// Returns a fault of reading the lines as one of the file that it is about.
-    pub fn locate(&self, fault: Fault) -> Located<'a>
-        //~ ensures file { IsLocated self.now.input.input.input fault result }
+    pub fn locate(&mut self, fault: Fault) -> Located<'a>
+        //~ ensures file { IsLocated self.new.input.input.input
+        //~     (caused self.old.input.input.input.damage fault) result }
+        //~ ensures same { StaysAt self.old.input.input.input self.new.input.input.input }
         //~ ensures advice { result.advice.now ≡ advice_on_lines result.fault }
     {
-        let mut located = self.inputs().locate(fault);
+        let mended = &mut self.input;
+        let picked = &mut mended.input;
+        let cause = picked.input.find_cause(fault);
+        let mut located = self.inputs().locate(cause);
         if let Fault::NotUtf8(_) = located.fault {
             located.advice = MENDING_ADVICE;
         }
@@ -112,8 +117,10 @@ impl<'a> LineReader<'a> {
     }
 
     /// Tells what there is to tell of all lines, if they were taken, or locates why they were not.
-    pub fn end(&self, outcome: Result<(), Fault>) -> Result<(), Located<'a>> {
-        outcome.map_err(|fault| self.locate(fault))?;
+    pub fn end(&mut self, outcome: Result<(), Fault>) -> Result<(), Located<'a>> {
+        if let Err(fault) = outcome {
+            return Err(self.locate(fault));
+        }
         self.tell_skipped();
         self.inputs().report_end();
         self.warn_of_looks();

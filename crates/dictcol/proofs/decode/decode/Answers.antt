@@ -1,13 +1,12 @@
-use Rattle.std.proofs.Common.{◌≡◌, inl, inr, ◌∙◌, rules}
-use Rattle.std.proofs.lemmas.Option.{IfSome_then}
+use Rattle.std.proofs.Common.{inl, inr}
 use Rattle.std.proofs.lemmas.Result.{IfErr-weaker}
+use Rattle.dictcol.specs.Crowded.{CrowdsFile, default_numbering}
+use Rattle.dictcol.proofs.Written.{file-fault}
 use Rattle.dictcol.proofs.decode.decode.Goals as goal
 
 pub returns-clause-err : goal.returns-clause-err
 returns-clause-err g c =
-    let file : c.in_ok-check_utf8.field-0.now ≡ c.in_ok-bytes.bytes.items = search rules in
-    let whole = IfSome_then (g.R.Read.remaining c.args.input.now) c.in_ok-bytes.ensures.whole (λ all is. file ∙ is) in
     IfErr-weaker c.decode.result _ _ (λ fault why. elim why [
-      | inl parse ↦ inr (inl (inr (c.in_ok-check_utf8.field-0.now, whole, parse)))
+      | inl file ↦ inr (inl (file-fault (CrowdsFile default_numbering) (g.R.Read.remaining c.args.input.now) c.in_ok-bytes.bytes.items fault c.in_ok-bytes.ensures.whole file))
       | inr writing ↦ inr (inr writing)
     ]) c.decode.ensures.err

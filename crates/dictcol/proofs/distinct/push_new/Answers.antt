@@ -1,4 +1,4 @@
-use Rattle.std.proofs.Common.{◌+◌, ◌-◌, ◌<◌, ◌≤◌, [], length, sym, arith, rules}
+use Rattle.std.proofs.Common.{◌+◌, ◌<◌, ◌≤◌, [], length, sym, arith, rules}
 use Rattle.std.proofs.lemmas.List.{get_or-map}
 use Rattle.std.proofs.lemmas.Slice.Zip.{AllZip-long}
 use Rattle.string_interner.specs.Extend.{texts_of}

@@ -1,4 +1,4 @@
-use Rattle.std.proofs.Common.{◌≡◌, ◌<◌, ◌≤◌, ◌+◌, ◌∷◌, [], length, map, take, string_bytes, sym, ap, subst, ◌∙◌, arith, rules, inl}
+use Rattle.std.proofs.Common.{◌≡◌, ◌<◌, ◌≤◌, ◌+◌, length, map, take, string_bytes, sym, ap, subst, ◌∙◌, arith, rules, inl}
 use Rattle.std.specs.Prelude.{IfSome}
 use Rattle.std.proofs.lemmas.List.{get_or-set_other, length-set, take_all, take-map}
 use Rattle.dictcol.specs.File.{DecodesFile, HoldTogether}

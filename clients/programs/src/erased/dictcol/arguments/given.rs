@@ -8,7 +8,7 @@ use super::options::{CommandName, OPTIONS, Setting, find_option, split_value};
 use crate::dictcol::command::{
     BackendKind, Columns, Command, Files, Invocation, Onto, Order, Rows, ShardFolder,
 };
-use crate::dictcol::get::Get;
+use crate::dictcol::get::{Asked, Get, RowRange};
 use crate::dictcol::input::field::Field;
 use crate::dictcol::input::mend::Mending;
 use crate::dictcol::reader::Reading;
@@ -37,6 +37,31 @@ fn parse_byte<'a>(option: &'static str, value: &'a str) -> Result<u8, Misuse<'a>
     match value.as_bytes() {
         [byte] if *byte != b'\n' => Ok(*byte),
         _ => Err(Misuse::NoByte(option, ShownWord(value))),
+    }
+}
+
+/// Returns the number at one end of a range, if there is one. No row has a number that is too great for the program.
+fn parse_bound<'a>(bound: &str, range: &'a str) -> Result<Option<usize>, Misuse<'a>> {
+    if bound.is_empty() {
+        return Ok(None);
+    }
+    for byte in bound.as_bytes() {
+        if !byte.is_ascii_digit() {
+            return Err(Misuse::NoRange(ShownWord(range)));
+        }
+    }
+    Ok(Some(bound.parse().unwrap_or(usize::MAX)))
+}
+
+/// Returns the rows that are the value of an option: a range as in Rust, without the row at its end.
+fn parse_range(value: &str) -> Result<RowRange, Misuse<'_>> {
+    let Some((start, end)) = value.split_once("..") else {
+        return Err(Misuse::NoRange(ShownWord(value)));
+    };
+    let start = parse_bound(start, value)?.unwrap_or(0);
+    match parse_bound(end, value)? {
+        Some(end) if end < start => Err(Misuse::NoRange(ShownWord(value))),
+        end => Ok(RowRange { start, end }),
     }
 }
 
@@ -110,6 +135,8 @@ pub struct Given<'a> {
     columns: Option<&'a str>,
     /// Whose numbers it writes.
     texts: Vec<&'a str>,
+    /// What `--rows` says.
+    range: Option<RowRange>,
     is_checked: bool,
     pub asks_help: bool,
     pub asks_version: bool,
@@ -141,6 +168,7 @@ impl<'a> Given<'a> {
             shards: None,
             columns: None,
             texts: Vec::new(alloc),
+            range: None,
             is_checked: false,
             asks_help: false,
             asks_version: false,
@@ -203,6 +231,7 @@ impl<'a> Given<'a> {
             Setting::Mending => self.mending = Some(parse_mending(value)?),
             Setting::ZeroEnded => self.is_zero_ended = true,
             Setting::Encoded => self.is_encoded = true,
+            Setting::Rows => self.range = Some(parse_range(value)?),
             Setting::Check => self.is_checked = true,
             Setting::Help => self.asks_help = true,
             Setting::Version => self.asks_version = true,
@@ -227,6 +256,7 @@ impl<'a> Given<'a> {
             Setting::Mending => self.mending.is_some(),
             Setting::ZeroEnded => self.is_zero_ended,
             Setting::Encoded => self.is_encoded,
+            Setting::Rows => self.range.is_some(),
             Setting::Check => self.is_checked,
             Setting::Help => self.asks_help,
             Setting::Version => self.asks_version,
@@ -429,14 +459,19 @@ impl<'a> Given<'a> {
     fn get(self) -> Result<Get<'a>, Misuse<'a>>
         //~ ensures { IfOk result (IsGet self.entry) }
     {
-        match self.columns {
-            Some(folder) if !self.texts.is_empty() => Ok(Get {
-                folder,
-                texts: self.texts,
-                is_checked: self.is_checked,
-            }),
-            _ => Err(Misuse::NoText),
-        }
+        let folder = self.columns.ok_or(Misuse::NoText)?;
+        let is_checked = self.is_checked;
+        let asked = match (self.range, self.texts.first()) {
+            (Some(_), Some(text)) => return Err(Misuse::TextBesideRows(ShownWord(*text))),
+            (Some(range), None) => Asked::Rows(range),
+            (None, Some(_)) => Asked::Texts(self.texts),
+            (None, None) => return Err(Misuse::NoText),
+        };
+        Ok(Get {
+            folder,
+            asked,
+            is_checked,
+        })
     }
 
     /// Returns what all the words ask for.

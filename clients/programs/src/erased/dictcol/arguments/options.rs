@@ -31,6 +31,7 @@ pub enum Setting {
     Mending,
     ZeroEnded,
     Encoded,
+    Rows,
     Check,
     Help,
     Version,
@@ -75,7 +76,7 @@ const STORING: &[CommandName] = &[Encode, Count, Distinct, Merge];
 pub type OptionRow = (&'static str, Setting, bool, &'static [CommandName]);
 
 /// The options, in the order in which the first is told that the command does not take.
-pub const OPTIONS: [OptionRow; 21] = [
+pub const OPTIONS: [OptionRow; 22] = [
     ("--plain", Setting::Plain, true, ENCODE),
     ("--onto", Setting::Onto, true, ENCODE),
     ("--onto-dictionary", Setting::OntoDictionary, true, ENCODE),
@@ -93,6 +94,7 @@ pub const OPTIONS: [OptionRow; 21] = [
     ("--zero-terminated", Setting::ZeroEnded, false, ENDED),
     ("-z", Setting::ZeroEnded, false, ENDED),
     ("--encoded", Setting::Encoded, false, COUNT),
+    ("--rows", Setting::Rows, true, GET),
     ("--check", Setting::Check, false, GET),
     ("--help", Setting::Help, false, NONE),
     ("-h", Setting::Help, false, NONE),

@@ -1,21 +1,26 @@
-//! The input: files that are read one after another, as `cat` writes them.
+//! The input: files that are read one after another, as `cat` writes them, and folders of plain columns as their text.
 
-//~ ghost use Rattle.std.specs.Prelude.{◌≡◌, ◌≤◌, [], length, true, None, IfOk, OnOk, if◌then◌else◌};
+//~ ghost use Rattle.std.specs.Prelude.{◌≡◌, ◌≤◌, [], length, false, true, None, IfOk, OnOk, if◌then◌else◌};
 //~ ghost use Rattle.dictcol.specs.Compression.{compression_of, explained};
-//~ ghost use Rattle.dictcol.specs.Inputs.{goes_on, lines_begun, newlines_with, noted, source_at, IsLocated};
+//~ ghost use Rattle.dictcol.specs.Inputs.{caused, goes_on, lines_begun, newlines_with, noted, source_at, IsLocated, StaysAt};
 
 use crate::rt::prelude::*; use crate::dictcol::fault::Fault;
 use crate::dictcol::input::blocks::count_byte;
 use crate::dictcol::input::compression::Compression;
 use crate::dictcol::input::zero::exchange_ends;
 use crate::dictcol::located::Located;
+use crate::dictcol::plain::folder;
+use crate::dictcol::plain::held::{HeldRows, HeldText};
 use crate::dictcol::source::Source;
 use crate::rt::fs::File;
-use crate::rt::io;
 use crate::rt::io::{ErrorKind, IsTerminal, Read};
+use crate::rt::{fs, io};
 
 /// With what a file begins that `encode` wrote.
 const ENCODED: &[u8] = b"{\"dictionary\":[";
+
+/// Linux's number for a folder in the place of a file.
+const IS_FOLDER: i32 = 21;
 
 /// Input of this many bytes is long: progress is reported on a terminal.
 const LONG: usize = 1 << 24;
@@ -28,6 +33,43 @@ fn report_progress(rt: &HostRuntime, bytes: usize, what: &str) {
     }
 }
 
+/// Between two reports of how much of files with known sizes was read are at least so many bytes, and a tenth of them all.
+const STEP: usize = 1 << 28;
+
+/// Returns how many bytes these files have together, if all are files with a size.
+fn total_size(rt: &HostRuntime, sources: &[Source<'_>]) -> Option<usize> {
+    let mut total = 0_usize;
+    for source in sources {
+        let Source::File(path) = *source else {
+            return None;
+        };
+        match fs::metadata(rt, path) {
+            Ok(metadata) if metadata.is_file() => {
+                total = total.saturating_add(metadata.len() as usize);
+            }
+            _ => return None,
+        }
+    }
+    Some(total)
+}
+
+/// Reports on a terminal how much of these files was read, if their sizes are known. Returns at how many bytes that is due again.
+fn report_share(rt: &HostRuntime, bytes: usize, sources: &[Source<'_>]) -> usize {
+    if !rt.stderr().is_terminal() {
+        return usize::MAX;
+    }
+    let Some(total) = total_size(rt, sources) else {
+        return usize::MAX;
+    };
+    if bytes >= total {
+        return usize::MAX;
+    }
+    let share = bytes / (total / 100).max(1);
+    // Nothing is lost if standard error is closed.
+    let _ = crate::rt::eprintln!(rt; "dictcol: {} MiB read, {share}%", bytes >> 20);
+    bytes.saturating_add((total / 10).max(STEP))
+}
+
 /// Where a file begins in the input.
 #[derive(Clone, Copy)]
 struct Begin<'a> {
@@ -38,6 +80,23 @@ struct Begin<'a> {
     lines: usize,
 }
 
+/// What is open.
+//~ #[derive(Drop)]
+enum Opened {
+    File(File),
+    /// The text that a folder of plain columns holds.
+    Folder(HeldText),
+}
+
+impl Read for Opened {
+    fn read(&mut self, buf: &mut [u8]) -> io::Result<usize> {
+        match self {
+            Opened::File(file) => file.read(buf),
+            Opened::Folder(text) => text.read(buf),
+        }
+    }
+}
+
 /// Reads some files one after another. If a file does not end in a newline, its last line and the first of the next file are one.
 //~ #[derive(Drop)]
 pub struct Inputs<'a> {
@@ -45,14 +104,20 @@ pub struct Inputs<'a> {
     sources: &'a [Source<'a>],
     /// Whether newlines and zero bytes are exchanged.
     is_exchanged: bool,
+    /// Whether folders of plain columns are read as the text that they hold.
+    takes_folders: bool,
     /// The index of the file that is read.
     at: usize,
     /// This file, if it is open and not standard input.
-    file: Option<File>,
+    opened: Option<Opened>,
+    /// What is wrong with it, if it is a folder.
+    damage: Option<Fault>,
     /// Whether it gave bytes so far.
     has_bytes: bool,
     /// How many bytes were read.
     length: usize,
+    /// At how many it is reported next how much was read.
+    next_report: usize,
     is_ended: bool,
     /// How many newlines were read.
     newlines: usize,
@@ -69,19 +134,23 @@ pub struct Inputs<'a> {
 }
 
 impl<'a> Inputs<'a> {
-    /// Returns the input of these files, none of which is open yet, in which newlines and zero bytes are exchanged or not.
-    pub fn new(rt: &'a HostRuntime, sources: &'a [Source<'a>], is_exchanged: bool) -> Inputs<'a>
+    /// Returns the input of these files, none of which is open yet.
+    pub fn new(rt: &'a HostRuntime, sources: &'a [Source<'a>]) -> Inputs<'a>
         //~ ensures sources { result.sources.now ≡ sources.now }
-        //~ ensures exchanged { result.is_exchanged ≡ is_exchanged }
+        //~ ensures as_they_are { (result.is_exchanged ≡ false) × (result.takes_folders ≡ false) }
+        //~ ensures sound { result.damage ≡ None }
     {
         Inputs {
             rt,
             sources,
-            is_exchanged,
+            is_exchanged: false,
+            takes_folders: false,
             at: 0,
-            file: None,
+            opened: None,
+            damage: None,
             has_bytes: false,
             length: 0,
+            next_report: STEP,
             is_ended: false,
             newlines: 0,
             is_within: false,
@@ -92,6 +161,63 @@ impl<'a> Inputs<'a> {
         }
     }
 
+    /// Returns the input of these files and folders of lines, none of which is open yet. A zero byte ends each line, or a newline.
+    pub fn of_lines(
+        rt: &'a HostRuntime,
+        sources: &'a [Source<'a>],
+        is_zero_ended: bool,
+    ) -> Inputs<'a>
+        //~ ensures sources { result.sources.now ≡ sources.now }
+        //~ ensures exchanged { result.is_exchanged ≡ is_zero_ended }
+        //~ ensures folders { result.takes_folders ≡ true }
+        //~ ensures sound { result.damage ≡ None }
+    {
+        let mut inputs = Inputs::new(rt, sources);
+        inputs.is_exchanged = is_zero_ended;
+        inputs.takes_folders = true;
+        inputs
+    }
+
+    /// Reads a folder of plain columns, in which no zero byte ends a line.
+    fn read_folder(&self, path: &str) -> Result<HeldRows, Fault> {
+        if self.is_exchanged {
+            return Err(Fault::NotZeroEnded);
+        }
+        folder::read_held(self.rt, path)
+    }
+
+    /// Opens a folder of plain columns.
+    fn open_folder(&mut self, path: &str) -> io::Result<Opened> {
+        match self.read_folder(path) {
+            Ok(rows) => Ok(Opened::Folder(HeldText::new(self.rt.alloc(), rows))),
+            Err(fault) if folder::has_none(self.rt, path, &fault) => {
+                Err(io::Error::from_raw_os_error(IS_FOLDER))
+            }
+            Err(fault) => {
+                self.damage = Some(fault);
+                Err(io::Error::from(ErrorKind::InvalidData))
+            }
+        }
+    }
+
+    /// Opens a file.
+    fn open(&mut self, path: &str) -> io::Result<Opened> {
+        match File::open(self.rt, path) {
+            Ok(file) => {
+                if !self.takes_folders || !file.metadata()?.is_dir() {
+                    return Ok(Opened::File(file));
+                }
+            }
+            // Who may not list a folder may be allowed to open its files.
+            Err(error) => {
+                if !self.takes_folders || !folder::is_folder(self.rt, path) {
+                    return Err(error);
+                }
+            }
+        }
+        self.open_folder(path)
+    }
+
     /// Reads from a file, which is opened first if none is open.
     fn read_source(&mut self, source: Source<'a>, buf: &mut [u8]) -> io::Result<usize>
         //~ ensures { IfOk result (λ count. count ≤ length buf.new) }
@@ -99,12 +225,12 @@ impl<'a> Inputs<'a> {
         let Source::File(path) = source else {
             return self.rt.stdin().read(buf);
         };
-        if let Some(file) = &mut self.file {
-            return file.read(buf);
+        if let Some(opened) = &mut self.opened {
+            return opened.read(buf);
         }
-        let mut file = File::open(self.rt, path)?;
-        let outcome = file.read(buf);
-        self.file = Some(file);
+        let mut opened = self.open(path)?;
+        let outcome = opened.read(buf);
+        self.opened = Some(opened);
         outcome
     }
 
@@ -170,6 +296,9 @@ impl<'a> Inputs<'a> {
     /// Notes how many bytes were read at once, which are none at the end of the input.
     fn note_length(&mut self, count: usize) {
         self.length = self.length.saturating_add(count);
+        if self.length >= self.next_report {
+            self.next_report = report_share(self.rt, self.length, self.sources);
+        }
         if count == 0 && !self.is_ended {
             self.is_ended = true;
             report_progress(self.rt, self.length, "read");
@@ -190,6 +319,14 @@ impl<'a> Inputs<'a> {
             Some(source) => *source,
             None => Source::StandardInput,
         }
+    }
+
+    /// Returns what is wrong with the folder that is read, which ended reading, or this fault if nothing is.
+    pub fn find_cause(&mut self, fault: Fault) -> Fault
+        //~ ensures cause { result ≡ caused self.old.damage fault }
+        //~ ensures same { StaysAt self.old self.new }
+    {
+        self.damage.take().unwrap_or(fault)
     }
 
     /// Returns a fault as one of the file that it is about, if it is about one: lines are counted from its own first one, and a
@@ -235,7 +372,7 @@ impl Inputs<'_> {
                 return Ok(count);
             }
             self.at = index + 1;
-            self.file = None;
+            self.opened = None;
             self.has_bytes = false;
         }
         Ok(0)

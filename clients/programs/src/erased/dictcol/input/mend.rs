@@ -1,8 +1,11 @@
 //! Input that is not all UTF-8, mended before its lines are looked at.
 
-//~ ghost use Rattle.std.specs.Prelude.{◌≡◌, ◌+◌, ◌≤◌, length, IfOk, OnErr};
+//~ ghost use Rattle.std.specs.Prelude.{◌≡◌, ◌+◌, ◌≤◌, ◌++◌, [], Some, false, length, take, drop, IfOk, OnOk, OnErr};
+//~ ghost use Rattle.std.specs.Io.KnownBytes.{prepend_known, Keeps, IsAtEnd};
+//~ ghost use Rattle.dictcol.specs.Lines.{utf8_lines};
 
-use crate::rt::prelude::*; use crate::memchr::memrchr;
+use crate::rt::prelude::*; use crate::dictcol::input::ready::give;
+use crate::memchr::{memchr, memrchr};
 use crate::rt::alloc::{AllocError, Global};
 use crate::rt::io;
 use crate::rt::io::{ErrorKind, Read};
@@ -39,8 +42,14 @@ pub struct Mended<R: Read> {
 }
 
 impl<R: Read> Mended<R> {
+    //~ ghost use Rattle.dictcol.specs.Mended.{mend_text, mended_left, mended_text, ready_left};
+
     /// Returns the input, mended in this way.
-    pub fn new(alloc: Global, input: R, mending: Option<Mending>) -> Self {
+    pub fn new(alloc: Global, input: R, mending: Option<Mending>) -> Self
+        //~ ensures text { mended_left result ≡ mended_text mending (R.remaining input) }
+        //~ ensures input { result.input ≡ input }
+        //~ ensures skipped { result.skipped ≡ 0 }
+    {
         Mended {
             alloc,
             input,
@@ -57,6 +66,11 @@ impl<R: Read> Mended<R> {
     fn hold_more(&mut self) -> io::Result<usize>
         //~ ensures ok { IfOk result (λ count.
         //~     length self.new.held.items ≡ length self.old.held.items + count) }
+        //~ ensures kept { Keeps (prepend_known self.old.held.items (R.remaining self.old.input))
+        //~     (prepend_known self.new.held.items (R.remaining self.new.input)) }
+        //~ ensures end { IfOk result (λ count. count ≡ 0 → IsAtEnd (R.remaining self.new.input)) }
+        //~ ensures same { (self.new.ready ≡ self.old.ready) × (self.new.given ≡ self.old.given)
+        //~     × (self.new.mending ≡ self.old.mending) × (self.new.is_ended ≡ self.old.is_ended) }
         //~ ensures err { OnErr result (self.new.held.items ≡ self.old.held.items) }
     {
         let start = self.held.len();
@@ -73,6 +87,13 @@ impl<R: Read> Mended<R> {
     /// Mends the first bytes of what is held.
     fn mend(&mut self, mending: Mending, count: usize) -> Result<(), AllocError>
         //~ requires { count ≤ length self.old.held.items }
+        //~ ensures ok { OnOk result
+        //~     ((ready_left self.new ≡ mend_text mending (take count self.old.held.items))
+        //~     × (self.new.held.items ≡ drop count self.old.held.items)) }
+        //~ ensures same { (self.new.input ≡ self.old.input)
+        //~     × (self.new.mending ≡ self.old.mending) × (self.new.is_ended ≡ self.old.is_ended) }
+        //~ ensures err { OnErr result ((self.new.held.items ≡ self.old.held.items)
+        //~     × (self.new.given ≡ 0)) }
     {
         self.given = 0;
         let front = &self.held[..count];
@@ -82,13 +103,7 @@ impl<R: Read> Mended<R> {
             }
             Mending::Skip => {
                 self.ready.clear();
-                for line in front.split_inclusive(|byte| *byte == b'\n') {
-                    if crate::simdutf8::basic::from_utf8(line).is_ok() {
-                        self.ready.extend_from_slice(line)?;
-                    } else {
-                        self.skipped = self.skipped.saturating_add(1);
-                    }
-                }
+                keep_good_lines(front, &mut self.ready, &mut self.skipped)?;
             }
         }
         let end = self.held.len();
@@ -98,10 +113,15 @@ impl<R: Read> Mended<R> {
     }
 
     /// Reads once, and mends the lines that are whole then.
-    fn mend_more(&mut self, mending: Mending) -> io::Result<()> {
+    fn mend_more(&mut self, mending: Mending) -> io::Result<()>
+        //~ requires { (ready_left self.old ≡ []) × (self.old.mending ≡ Some mending)
+        //~     × (self.old.is_ended ≡ false) }
+        //~ ensures kept { Keeps (mended_left self.old) (mended_left self.new) }
+        //~ ensures same { self.new.mending ≡ self.old.mending }
+    {
         let start = self.held.len();
-        let whole = if self.hold_more()? == 0 {
-            self.is_ended = true;
+        let count = self.hold_more()?;
+        let whole = if count == 0 {
             start
         } else {
             match memrchr(b'\n', &self.held[start..]) {
@@ -109,30 +129,49 @@ impl<R: Read> Mended<R> {
                 None => return Ok(()),
             }
         };
-        self.mend(mending, whole)?;
+        if self.mend(mending, whole).is_err() {
+            // Nothing of what is held is given twice.
+            self.ready.clear();
+            return Err(io::Error::from(ErrorKind::OutOfMemory));
+        }
+        self.is_ended = count == 0;
         Ok(())
-    }
-
-    /// Gives bytes on that are mended. Returns how many.
-    fn give(&mut self, buf: &mut [u8]) -> usize
-        //~ ensures { result ≤ length buf.new }
-    {
-        let left = &self.ready[self.given..];
-        let count = left.len().min(buf.len());
-        buf[..count].copy_from_slice(&left[..count]);
-        self.given += count;
-        count
     }
 }
 
+/// Appends the lines of a text that are UTF-8, and counts the others.
+fn keep_good_lines(text: &[u8], kept: &mut Vec<u8>, skipped: &mut usize) -> Result<(), AllocError>
+    //~ ensures { OnOk result (kept.new.items ≡ kept.old.items ++ utf8_lines text.now) }
+{
+    let mut rest = text;
+    while !rest.is_empty() {
+        let end = match memchr(b'\n', rest) {
+            Some(at) => at + 1,
+            None => rest.len(),
+        };
+        let line = &rest[..end];
+        if crate::simdutf8::basic::from_utf8(line).is_ok() {
+            kept.extend_from_slice(line)?;
+        } else {
+            *skipped = skipped.saturating_add(1);
+        }
+        rest = &rest[end..];
+    }
+    Ok(())
+}
+
 impl<R: Read> Read for Mended<R> {
+    //~ ghost use Rattle.dictcol.specs.Mended.{mended_left};
+
+    //~ ghost remaining = { mended_left };
+
     fn read(&mut self, buf: &mut [u8]) -> io::Result<usize> {
         let Some(mending) = self.mending else {
             return self.input.read(buf);
         };
         for _ in 0..u64::MAX {
             if self.given < self.ready.len() || self.is_ended {
-                return Ok(self.give(buf));
+                return Ok(give(&self.ready, &mut self.given, buf));
             }
             self.mend_more(mending)?;
         }

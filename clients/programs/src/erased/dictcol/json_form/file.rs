@@ -275,6 +275,23 @@ pub fn read<B: Backend + Drop>(
     read_value(alloc, hasher, &value)
 }
 
+/// Returns what a file holds, and frees the file, which is as long as the texts.
+fn read_bytes<B: Backend + Drop>(
+    alloc: Global,
+    hasher: LineHasher,
+    bytes: Vec<u8>,
+) -> Result<Parts<B>, Fault>
+    //~ ensures lines { IfOk result (λ parts. FileHolds bytes.items
+    //~     (rows_of parts.dictionary.texts parts.codes.items) parts.is_ended) }
+    //~ ensures within { IfOk result AreWithin }
+    //~ ensures texts { IfOk result (λ parts. HasDictionary bytes.items parts.dictionary.texts) }
+
+    // A file is called damaged only if it holds no text, and not UTF-8 only if it is not.
+    //~ ensures err { IfErr result (IsFileFault (CrowdsFile B.numbering) (Some bytes.items)) }
+{
+    read(alloc, hasher, check_utf8(0, &bytes)?)
+}
+
 /// Returns a column of the lines of a file, and whether the last one ends in a newline.
 pub fn read_column<B: Backend + Drop>(
     alloc: Global,
@@ -290,9 +307,7 @@ pub fn read_column<B: Backend + Drop>(
         dictionary,
         codes,
         is_ended,
-    } = read(alloc, hasher, check_utf8(0, &bytes)?)?;
-    // The column needs nothing of the file, which is as long as the texts.
-    drop(bytes);
+    } = read_bytes(alloc, hasher, bytes)?;
     // For the proof: states that the texts are distinct.
     let _ = dictionary.len();
     match Column::from_interner(alloc, hasher, dictionary, codes) {
@@ -310,21 +325,21 @@ pub fn read_column<B: Backend + Drop>(
 pub fn decode<W: Write>(
     alloc: Global,
     hasher: LineHasher,
-    file: &str,
+    bytes: Vec<u8>,
     output: &mut W,
 ) -> Result<(), Fault>
     //~ ensures written { OnOk result
-    //~     (Writes (DecodesFile file.now) (W.contents output.old) (W.contents output.new)) }
+    //~     (Writes (DecodesFile bytes.items) (W.contents output.old) (W.contents output.new)) }
 
-    // A file that holds a text is never called damaged. Where its JSON ends early is told.
-    //~ ensures err { IfErr result (λ fault. IsParseFault
-    //~     (CrowdsFile default_numbering file.now) (IsFileDamage file.now) fault
+    // A file is called damaged only if it holds no text, and not UTF-8 only if it is not.
+    //~ ensures err { IfErr result (λ fault.
+    //~     IsFileFault (CrowdsFile default_numbering) (Some bytes.items) fault
     //~     ⊎ IsWriteFault fault) }
 
     // Unless all went well or a write failed, the output was not touched.
     //~ ensures silent { WritesLast result output.old output.new }
 {
-    let parts = read::<DefaultBackend>(alloc, hasher, file)?;
+    let parts = read_bytes::<DefaultBackend>(alloc, hasher, bytes)?;
     let texts = list_texts(alloc, &parts.dictionary)?;
     write_lines(output, &texts, &parts.codes, parts.is_ended)
 }

@@ -99,9 +99,16 @@ fn put_all_back(
     store_folder(folder)
 }
 
-/// Ends what a run began that was killed while it gave new files their places. If only the numbers are left, they get theirs. Else
-/// the old files get theirs back. `is_cut` is what the `pair.txt` in its place says of the last line.
-pub fn end_left(
+/// Gives the numbers of a run their place, which was killed when its other files had theirs.
+pub fn end_left(rt: &HostRuntime, folder: &str, new: &Paths, old: &Paths) -> io::Result<()> {
+    let folder = File::open(rt, folder)?;
+    fs::rename(rt, new.numbers.as_str(), old.numbers.as_str())?;
+    store_folder(&folder)
+}
+
+/// Gives old files the places back that a run took from them before it was killed, if it did. `is_cut` is what the `pair.txt` in its
+/// place says of the last line.
+pub fn undo_left(
     rt: &HostRuntime,
     folder: &str,
     new: &Paths,
@@ -109,18 +116,10 @@ pub fn end_left(
     kept: &Paths,
     is_cut: bool,
 ) -> io::Result<()> {
-    if fs::exists(rt, old.numbers.as_str())? {
-        return Ok(());
-    }
-    let folder = File::open(rt, folder)?;
-    let has_numbers = fs::exists(rt, new.numbers.as_str())?;
-    if has_numbers && !fs::exists(rt, new.dictionary.as_str())? {
-        fs::rename(rt, new.numbers.as_str(), old.numbers.as_str())?;
-        return store_folder(&folder);
-    }
     if !fs::exists(rt, kept.numbers.as_str())? {
         return Ok(());
     }
+    let folder = File::open(rt, folder)?;
     // While the new `pair.txt` has not got its place, no file behind it has.
     let is_cut = is_cut && !fs::exists(rt, new.pair.as_str())?;
     put_all_back(rt, &folder, new, old, kept, is_cut)

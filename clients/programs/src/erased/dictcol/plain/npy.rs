@@ -3,8 +3,9 @@
 //~ ghost use Rattle.std.specs.Prelude.{◌≡◌, ℕ, ◌+◌, ◌*◌, ◌/◌, ◌^◌, ◌<◌, [], ◌++◌, List, All, length, IfOk, IfErr, OnOk};
 //~ ghost use Rattle.std.specs.List.{flat_map};
 //~ ghost use Rattle.dictcol.specs.Fault.{IsArrayDamage};
-//~ ghost use Rattle.dictcol.specs.Plain.{code_bytes, npy_header, AreNumbers, IsArrayFault, IsHeaderFault, IsNotALine, IsNpy, IsNumbersFault};
+//~ ghost use Rattle.dictcol.specs.Plain.{code_bytes, codes_in, npy_header, AreNumbers, IsArrayFault, IsHeaderFault, IsNotALine, IsNpy, IsNumbersFault};
 //~ ghost use Rattle.dictcol.specs.Writes.{Writes};
+//~ ghost use Rattle.dictcol.specs.declared.fault.Fault.TheVariants.{Memory};
 
 use crate::rt::prelude::*; use crate::dictcol::fault::Fault;
 use crate::dictcol::output::block_writer::BlockWriter;
@@ -119,6 +120,24 @@ fn check_numbers(bytes: &[u8], limit: usize) -> Result<(), Fault>
         rest = behind;
     }
     Ok(())
+}
+
+/// Returns the numbers that bytes are, four each.
+pub fn list_numbers(alloc: Global, bytes: &[u8]) -> Result<Vec<u32>, Fault>
+    //~ ensures ok { IfOk result (λ numbers. numbers.items ≡ codes_in bytes.now) }
+    //~ ensures err { IfErr result (λ fault. fault ≡ Memory) }
+{
+    let Ok(mut numbers) = Vec::with_capacity(alloc, bytes.len() / 4) else {
+        return Err(Fault::Memory);
+    };
+    let mut rest = bytes;
+    'numbers: while let Some((first, behind)) = rest.split_first_chunk::<4>() {
+        if numbers.push(u32::from_le_bytes(*first)).is_err() {
+            return Err(Fault::Memory);
+        }
+        rest = behind;
+    }
+    Ok(numbers)
 }
 
 /// Returns the bytes of the numbers that a file has, each of which must be below `limit`.

@@ -1,4 +1,4 @@
-use Rattle.std.proofs.Common.{◌≡◌, ◌≢◌, [], string_bytes, refl, inr, rules}
+use Rattle.std.proofs.Common.{◌≢◌, [], string_bytes, refl, inr, rules}
 use Rattle.dictcol.proofs.PlainColumns.{open-end, some-weaker}
 use Rattle.dictcol.proofs.plain.dictionary.take_file.Goals as goal
 

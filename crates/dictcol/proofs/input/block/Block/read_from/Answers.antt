@@ -1,21 +1,8 @@
-use Rattle.std.proofs.Common.{◌≡◌, ◌+◌, ◌-◌, ◌≤◌, ◌++◌, ℕ, List, length, take, drop, sym, ap, ◌∙◌, arith}
-use Rattle.std.proofs.lemmas.List.{with_items_is, length-append, length-take, length-take-le, length-drop}
+use Rattle.std.proofs.Common.{◌+◌, ◌-◌, ◌≤◌, ◌++◌, length, take, sym, ap, ◌∙◌, arith}
+use Rattle.std.proofs.lemmas.List.{with_items_is}
 use borrow.Rule.Slice.PartMut.{put_mid, post_of}
-use Rattle.dictcol.proofs.Taken.{held-more}
+use Rattle.dictcol.proofs.Taken.{held-more, length-put}
 use Rattle.dictcol.proofs.input.block.Block.read_from.Goals as goal
-
--- a write behind an index keeps the length
-length-put : (all part : List ℕ) (at : ℕ) → at ≤ length all → length part ≡ length (take (length all - at) (drop at all)) → length (put_mid at (length all - at) all part) ≡ length all
-length-put all part at within same =
-    omega (
-      arith,
-      length-append (take at all) (part ++ post_of at (length all - at) all),
-      length-append part (post_of at (length all - at) all),
-      length-take-le at all within,
-      length-take (length all - at) (drop at all),
-      length-drop at all,
-      length-drop (length all - at) (drop at all),
-    )
 
 pub returns-clause-ok : goal.returns-clause-ok
 returns-clause-ok g c =
