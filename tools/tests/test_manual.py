@@ -65,7 +65,7 @@ class ManualTest(unittest.TestCase):
         names = {f"-{name}".replace("\\-", "-"): bool(value) for line, value in defined for name in line.split(" , ")}
         names.pop("--")
         self.assertEqual(names, taken)
-        valued = set(re.findall(r"(--?[a-z][a-z0-9-]*) [A-Z]+\b", help_text().partition("\n\n")[2]))
+        valued = set(re.findall(r"(--?[a-z][a-z0-9-]*) [A-Z]+\b", help_text()))
         self.assertEqual(valued, {name for name, has_value in taken.items() if has_value})
 
     def test_usage(self) -> None:

@@ -152,10 +152,10 @@ class RefuseTest(SmallRepository):
 
     def outcomes(self, is_thorough=False):
         said = argparse.Namespace(kept=None, workers=1, outputs=None, thorough=is_thorough)
-        bases = {"low": self.top / f"base_{len(self.checks)}"}
+        base = self.top / f"base_{len(self.checks)}"
         with contextlib.redirect_stdout(io.StringIO()):
-            good, wrong = REFUSE["accept"](bases["low"], trials_of(tables.edits_of("low")), said)
-            found = REFUSE["refuse"](good, bases, said) | wrong
+            good, wrong = REFUSE["accept"](base, trials_of(tables.edits_of("low")), said)
+            found = REFUSE["refuse"](good, base, said) | wrong
         return {it.name: outcome for it, outcome in found.items()}
 
     def refused(self, **named):
