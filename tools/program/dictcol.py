@@ -231,7 +231,7 @@ def log_lines():
 
 # The most memory in MiB of `encode`, `count`, `decode` and `merge`, with some room for other versions of the C library. This process
 # has up to 64.
-LARGE = {"10 MB of newlines": (newlines, (64, 64, 80, 100)), "100 MiB of lines of a log": (log_lines, (155, 155, 350, 440))}
+LARGE = {"10 MB of newlines": (newlines, (64, 64, 80, 100)), "100 MiB of lines of a log": (log_lines, (155, 155, 249, 440))}
 
 
 def try_large(program, name):
