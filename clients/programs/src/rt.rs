@@ -13,8 +13,8 @@ pub(crate) use {rattle_eprintln as eprintln, rattle_format as format, rattle_vec
 
 /// What each module of Rattle has without an import.
 pub mod prelude {
-    pub use super::Dedup;
     pub use super::host::HostRuntime;
+    pub use super::Dedup;
     pub use string_interner::__parts::rt::prelude::*;
 }
 
