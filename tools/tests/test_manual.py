@@ -65,7 +65,10 @@ class ManualTest(unittest.TestCase):
         names = {f"-{name}".replace("\\-", "-"): bool(value) for line, value in defined for name in line.split(" , ")}
         names.pop("--")
         self.assertEqual(names, taken)
-        valued = set(re.findall(r"(--?[a-z][a-z0-9-]*) [A-Z]+\b", help_text()))
+        usage, _, body = help_text().partition("\n\n")
+        # The usage alone tells the value of this one.
+        self.assertIn("--rows A..B", usage)
+        valued = {"--rows", *re.findall(r"(--?[a-z][a-z0-9-]*) [A-Z]+\b", body)}
         self.assertEqual(valued, {name for name, has_value in taken.items() if has_value})
 
     def test_usage(self) -> None:
